@@ -6,7 +6,10 @@ crates.txt; crates on which another one of them stands are left out, and so are 
 floors: a crate's floor is one above the highest floor of those that it stands on. Crates whose names end with `_rows` or
 `_images` are those of tests, and have a table of their own.
 
-With --check nothing is written, and the status is 1 where the tables aren't those that would be written.
+With --check nothing is written, and the status is 1 where the tables aren't those that would be written, or where crates.txt
+has more ways down than MOST_WAYS: the kit's `rt ci` goes each way from a crate down to the ground, some two milliseconds a way, so
+a crate lists few libraries and names the others through these (CONTRIBUTING.md). With --ways the ways down from each crate are
+printed, most first.
 """
 import argparse
 import re
@@ -18,6 +21,7 @@ PAGE = TOP / "docs" / "MAP.md"
 BEGIN = "<!-- The tables from here on are written by tools/crate_map.py. -->"
 END = "<!-- The tables end here. -->"
 TESTS = ("_rows", "_images")
+MOST_WAYS = 400_000
 
 
 def named():
@@ -77,6 +81,20 @@ def table(title, crates, below):
     return [title, "", "| Floor | Crate | What it is | Stands on |", "|---|---|---|---|", *rows]
 
 
+def ways(below):
+    """Of each crate, how many ways lead from it down through crates.txt, itself among them."""
+    found = {}
+
+    def count(crate):
+        if crate not in found:
+            found[crate] = 1 + sum(count(it) for it in below[crate])
+        return found[crate]
+
+    for crate in below:
+        count(crate)
+    return found
+
+
 def tables():
     below = named()
     tests = [crate for crate in below if crate.endswith(TESTS)]
@@ -91,7 +109,16 @@ def tables():
 def main():
     words = argparse.ArgumentParser(description=__doc__, formatter_class=argparse.RawDescriptionHelpFormatter)
     words.add_argument("--check", action="store_true", help="write nothing, and fail where the tables aren't fresh")
-    check = words.parse_args().check
+    words.add_argument("--ways", action="store_true", help="print the ways down from each crate, and write nothing")
+    given = words.parse_args()
+    check = given.check
+    counts = ways(named())
+    if given.ways:
+        for crate in sorted(counts, key=lambda it: -counts[it]):
+            print(counts[crate], crate)
+        return
+    if check and sum(counts.values()) > MOST_WAYS:
+        sys.exit(f"crate_map: crates.txt has {sum(counts.values())} ways down, more than {MOST_WAYS}: list fewer libraries (CONTRIBUTING.md)")
     page = PAGE.read_text(encoding="utf-8")
     if page.count(BEGIN) != 1 or page.count(END) != 1 or page.index(BEGIN) > page.index(END):
         sys.exit(f"crate_map: {PAGE} lacks its two marker lines")

@@ -3,17 +3,17 @@ use Rattle.std.proofs.Common.{◌≡◌, ◌≢◌, ℕ, ◌+◌, ◌-◌, ◌*�
 use Rattle.std.proofs.lemmas.Bool.{cases_lt, eq-eqb, ne_eqb}
 use Rattle.std.proofs.lemmas.List.{length-append, length-set, get_or_append_left, get_or-set_same, get_or-set_other}
 use Rattle.std.proofs.Math.Seq.{get_or-append_seam}
-use Rattle.disk_model.specs.Bytes.{written, zeros}
-use Rattle.disk_model.proofs.Frames.{length-written}
-use Rattle.sector_device.specs.Disks.{Disk}
-use Rattle.log_model.specs.declared.entry.Entry.{Entry}
-use Rattle.log_model.specs.Entries.{entry_size, entry_spelling, FitsEntry}
-use Rattle.log_model.proofs.EntrySpelled.{length-zeros, length-entry_spelling}
-use Rattle.log_page.specs.Places.{page_bytes, first_page, entries_at, sequence_bits, lsn_at, lap_of}
-use Rattle.log_page.specs.RecordPages.{lsn_of}
-use Rattle.log_page.specs.PageSpellings.{end_lsn, entries_spelling}
-use Rattle.log_page.proofs.Readings.{size_some}
-use Rattle.store_model.specs.Rings.{Ring}
+use Rattle.log_area.specs.disk_model.Bytes.{written, zeros}
+use Rattle.log_area.proofs.disk_model.Frames.{length-written}
+use Rattle.log_area.specs.sector_device.Disks.{Disk}
+use Rattle.ring_laws.specs.log_model.declared.entry.Entry.{Entry}
+use Rattle.ring_laws.specs.log_model.Entries.{entry_size, entry_spelling, FitsEntry}
+use Rattle.ring_laws.proofs.log_model.EntrySpelled.{length-zeros, length-entry_spelling}
+use Rattle.ring_laws.specs.log_page.Places.{page_bytes, first_page, entries_at, sequence_bits, lsn_at, lap_of}
+use Rattle.ring_laws.specs.log_page.RecordPages.{lsn_of}
+use Rattle.ring_laws.specs.log_page.PageSpellings.{end_lsn, entries_spelling}
+use Rattle.ring_laws.proofs.log_page.Readings.{size_some}
+use Rattle.ring_laws.specs.store_model.Rings.{Ring}
 use Rattle.ring_laws.specs.Numbers.{LogSession, ring_size, place_of_page, lap_of_page, lsn_of_page}
 use Rattle.ring_laws.specs.RingPages.{fixed_to}
 use Rattle.ring_laws.proofs.Numbering.{has_places, in_ring}

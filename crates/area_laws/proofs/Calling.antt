@@ -6,20 +6,20 @@ use Rattle.std.specs.Option.{option_map}
 use Rattle.std.proofs.lemmas.Bool.{cases_Bool}
 use Rattle.std.proofs.lemmas.List.{length-drop, get_or-drop}
 use Rattle.std.proofs.lemmas.List.FromFn.{get_or-map-range_with_len}
-use Rattle.disk_model.specs.Sectors.{sector_of, raw_from}
+use Rattle.log_area.specs.disk_model.Sectors.{sector_of, raw_from}
 use Rattle.host_base.specs.declared.outside.Failed.{Failed}
-use Rattle.fixup_record.specs.Protecting.{protected_bytes}
-use Rattle.sector_device.specs.Disks.{Disk, SeesDisk, IsSized, IsTornDisk, IsBetween, put, settled, seen}
-use Rattle.sector_device.specs.Moments.{Changes}
-use Rattle.sector_device.specs.Sectors.{sectors_of}
-use Rattle.log_model.specs.declared.entry.Entry.{Entry}
-use Rattle.log_page.specs.declared.places.LogPlace.{LogPlace}
-use Rattle.log_page.specs.Places.{first_page, sequence_bits, lap_of}
-use Rattle.log_page.specs.CheckWords.{IsCheckWord}
-use Rattle.log_page.specs.LiveLogs.{said_lsn}
-use Rattle.log_page.specs.PageSpellings.{end_lsn, page_front, page_spelling}
-use Rattle.log_reading.specs.Rings.{IsRingPlace}
-use Rattle.store_model.specs.Rings.{PagePlaces, Ring, synced_places}
+use Rattle.ring_laws.specs.fixup_record.Protecting.{protected_bytes}
+use Rattle.log_area.specs.sector_device.Disks.{Disk, SeesDisk, IsSized, IsTornDisk, IsBetween, put, settled, seen}
+use Rattle.log_area.specs.sector_device.Moments.{Changes}
+use Rattle.log_area.specs.sector_device.Sectors.{sectors_of}
+use Rattle.ring_laws.specs.log_model.declared.entry.Entry.{Entry}
+use Rattle.ring_laws.specs.log_page.declared.places.LogPlace.{LogPlace}
+use Rattle.ring_laws.specs.log_page.Places.{first_page, sequence_bits, lap_of}
+use Rattle.ring_laws.specs.log_page.CheckWords.{IsCheckWord}
+use Rattle.ring_laws.specs.log_page.LiveLogs.{said_lsn}
+use Rattle.ring_laws.specs.log_page.PageSpellings.{end_lsn, page_front, page_spelling}
+use Rattle.ring_laws.specs.log_reading.Rings.{IsRingPlace}
+use Rattle.ring_laws.specs.store_model.Rings.{PagePlaces, Ring, synced_places}
 use Rattle.ring_laws.specs.Numbers.{LogSession, place_of_page, lap_of_page, lsn_of_page, IsInRing}
 use Rattle.ring_laws.specs.PageBytes.{page_sector, raw_page, IsStill, AreAlike, spelled_page}
 use Rattle.ring_laws.specs.RingPages.{HoldsRing, entries_of_page, first_ring, page_written, page_sent}

@@ -4,14 +4,14 @@ use Rattle.std.specs.List.{flat_map}
 use Rattle.std.proofs.lemmas.List.{append-nil, length-append}
 use Rattle.std.proofs.lemmas.Grind.{flat_map-append}
 use Rattle.std.proofs.lemmas.Nat.{div-mul-add}
-use Rattle.log_model.specs.declared.entry.Entry.{Entry}
-use Rattle.log_model.specs.Entries.{entry_size, entry_spelling, FitsEntry}
-use Rattle.log_model.proofs.EntrySpelled.{length-entry_spelling}
-use Rattle.log_page.specs.Places.{page_bytes, entries_at, place_bits, lsn_at, lap_of}
-use Rattle.log_page.specs.RecordPages.{lsn_of}
-use Rattle.log_page.specs.PageSpellings.{end_lsn, entries_spelling, AreInPlace}
-use Rattle.log_page.proofs.PlacesFit.{log_fits}
-use Rattle.log_page.proofs.Readings.{size_some}
+use Rattle.ring_laws.specs.log_model.declared.entry.Entry.{Entry}
+use Rattle.ring_laws.specs.log_model.Entries.{entry_size, entry_spelling, FitsEntry}
+use Rattle.ring_laws.proofs.log_model.EntrySpelled.{length-entry_spelling}
+use Rattle.ring_laws.specs.log_page.Places.{page_bytes, entries_at, place_bits, lsn_at, lap_of}
+use Rattle.ring_laws.specs.log_page.RecordPages.{lsn_of}
+use Rattle.ring_laws.specs.log_page.PageSpellings.{end_lsn, entries_spelling, AreInPlace}
+use Rattle.ring_laws.proofs.log_page.PlacesFit.{log_fits}
+use Rattle.ring_laws.proofs.log_page.Readings.{size_some}
 
 pub spelling-nil : entries_spelling [] ≡ []
 unfolding entries_spelling

@@ -1,9 +1,9 @@
 -- Bytes that are put behind those that stand in a page.
 use Rattle.std.proofs.Common.{◌≡◌, ℕ, zero, suc, ◌+◌, ◌-◌, ◌≤◌, List, [], ◌∷◌, ◌++◌, length, drop, refl, sym, ap, ap₂, ◌∙◌, arith}
 use Rattle.std.proofs.lemmas.List.{append_assoc, length-append, take_at, drop_at, drop-replicate}
-use Rattle.disk_model.specs.Bytes.{written, zeros}
-use Rattle.disk_model.proofs.Puts.{written_parts}
-use Rattle.log_model.proofs.EntrySpelled.{length-zeros}
+use Rattle.log_area.specs.disk_model.Bytes.{written, zeros}
+use Rattle.log_area.proofs.disk_model.Puts.{written_parts}
+use Rattle.ring_laws.proofs.log_model.EntrySpelled.{length-zeros}
 
 pub drop_written : (k at place : ℕ) (new xs : List ℕ) → place ≡ k + at → drop k (written place new xs) ≡ written at new (drop k xs)
 drop_written zero at place new xs is = ap (λ (p : ℕ). written p new xs) (is ∙ omega arith)

@@ -2,20 +2,20 @@
 use Rattle.std.proofs.Common.{◌≡◌, ℕ, ◌+◌, ◌-◌, ◌^◌, ◌<◌, ◌≤◌, Bool, true, cond, List, [], length, drop, Option, Some, None, Ok, Err, refl, sym, ap, ◌∙◌, subst, inl, inr, arith}
 use Rattle.std.proofs.lemmas.Bool.{cases_Bool}
 use Rattle.host_base.specs.declared.outside.Failed.{Failed}
-use Rattle.fixup_record.proofs.Protected.{length-protected}
-use Rattle.sector_device.specs.Disks.{Disk, IsSized, IsBetween, put, settled, seen}
-use Rattle.sector_device.specs.Moments.{Changes}
-use Rattle.sector_device.specs.Sectors.{sectors_of}
-use Rattle.sector_device.specs.WholeSectors.{length-sectors_of}
-use Rattle.log_model.specs.declared.entry.Entry.{Entry}
-use Rattle.log_model.specs.Entries.{entry_size, FitsEntry}
-use Rattle.log_page.specs.Places.{first_page, sequence_bits, lap_of}
-use Rattle.log_page.specs.LiveLogs.{said_lsn}
-use Rattle.log_page.specs.Restarts.{is_blank}
-use Rattle.log_page.specs.PageSpellings.{page_spelling, MakePage}
-use Rattle.log_page.proofs.PageAgain.{page_size}
-use Rattle.log_reading.specs.Rings.{IsRingPlace}
-use Rattle.store_model.specs.Rings.{Ring, Restarts, synced_places}
+use Rattle.ring_laws.proofs.fixup_record.Protected.{length-protected}
+use Rattle.log_area.specs.sector_device.Disks.{Disk, IsSized, IsBetween, put, settled, seen}
+use Rattle.log_area.specs.sector_device.Moments.{Changes}
+use Rattle.log_area.specs.sector_device.Sectors.{sectors_of}
+use Rattle.log_area.specs.sector_device.WholeSectors.{length-sectors_of}
+use Rattle.ring_laws.specs.log_model.declared.entry.Entry.{Entry}
+use Rattle.ring_laws.specs.log_model.Entries.{entry_size, FitsEntry}
+use Rattle.ring_laws.specs.log_page.Places.{first_page, sequence_bits, lap_of}
+use Rattle.ring_laws.specs.log_page.LiveLogs.{said_lsn}
+use Rattle.ring_laws.specs.log_page.Restarts.{is_blank}
+use Rattle.ring_laws.specs.log_page.PageSpellings.{page_spelling, MakePage}
+use Rattle.ring_laws.proofs.log_page.PageAgain.{page_size}
+use Rattle.ring_laws.specs.log_reading.Rings.{IsRingPlace}
+use Rattle.ring_laws.specs.store_model.Rings.{Ring, Restarts, synced_places}
 use Rattle.ring_laws.specs.Numbers.{LogSession, place_of_page, lap_of_page, IsInRing}
 use Rattle.ring_laws.specs.PageBytes.{page_sector, raw_page, IsStill, AreAlike, spelled_page}
 use Rattle.ring_laws.specs.RingPages.{entries_of_page, first_ring, page_written, page_sent}
@@ -29,8 +29,8 @@ use Rattle.area_laws.specs.Standing.{StandsRestarts, Stands, IsOlder, pages_with
 use Rattle.area_laws.specs.Laws.{IsKnown, SendsNext, StandsAfter}
 use Rattle.area_laws.proofs.Keeps.{HasRoom, small_entry, is_placed}
 use Rattle.area_laws.proofs.Rising.{next_rises, append_before, lap_below}
-use Rattle.log_page.proofs.Readings.{size_some}
-use Rattle.log_page.specs.declared.restart.Restart.{Restart}
+use Rattle.ring_laws.proofs.log_page.Readings.{size_some}
+use Rattle.ring_laws.specs.log_page.declared.restart.Restart.{Restart}
 use Rattle.std.specs.Prelude.{IfSome}
 use Rattle.area_laws.proofs.Appending.{ring_appends}
 use Rattle.area_laws.proofs.Calling.{held_here, ring_starts, ring_seals, ring_writes, ring_sends, sync_stands, ring_stays}

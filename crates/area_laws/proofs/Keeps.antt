@@ -3,12 +3,12 @@ use Rattle.std.proofs.Common.{◌≡◌, ◌⊎◌, ℕ, ◌+◌, ◌-◌, ◌^�
 use Rattle.std.specs.Prelude.{not, ◌&&◌}
 use Rattle.std.proofs.lemmas.Bool.{cases_lt, lt-ltb, le-ltb, lt-leb, le-leb}
 use Rattle.std.proofs.lemmas.List.{length-set}
-use Rattle.log_model.specs.declared.entry.Entry.{Entry}
-use Rattle.log_model.specs.declared.entry.Act.{Act}
-use Rattle.log_model.specs.declared.entry.Act.TheVariants.{Update, Commit}
-use Rattle.log_model.specs.Entries.{act_size, entry_size, FitsAct, FitsEntry}
-use Rattle.log_page.specs.Places.{sequence_bits}
-use Rattle.log_page.proofs.Readings.{size_some}
+use Rattle.ring_laws.specs.log_model.declared.entry.Entry.{Entry}
+use Rattle.ring_laws.specs.log_model.declared.entry.Act.{Act}
+use Rattle.ring_laws.specs.log_model.declared.entry.Act.TheVariants.{Update, Commit}
+use Rattle.ring_laws.specs.log_model.Entries.{act_size, entry_size, FitsAct, FitsEntry}
+use Rattle.ring_laws.specs.log_page.Places.{sequence_bits}
+use Rattle.ring_laws.proofs.log_page.Readings.{size_some}
 use Rattle.log_area.specs.Areas.{LogAreaOf, IsLogArea, ring_size, lap_at, place_at, is_filling, fits, next_number, next_at, used_pages, free_pages, needs_page, held_page, page_with, appended}
 
 small_act : (act : Act) → FitsAct act → act_size act ≤ 4032

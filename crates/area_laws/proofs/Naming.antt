@@ -4,22 +4,22 @@ use Rattle.std.specs.Prelude.{IfSome, is_some, min}
 use Rattle.std.specs.Option.{option_map}
 use Rattle.std.proofs.lemmas.Bool.{cases_lt, lt-ltb, eq-eqb, ne_eqb, or_left, or_right, and_from}
 use Rattle.host_base.specs.declared.outside.Failed.{Failed}
-use Rattle.fixup_record.specs.Protecting.{protected_bytes}
-use Rattle.fixup_record.proofs.Protected.{length-protected}
-use Rattle.sector_device.specs.Disks.{Disk, SeesDisk, IsTornDisk, IsBetween, put, settled}
-use Rattle.sector_device.specs.Moments.{Changes}
-use Rattle.sector_device.specs.Sectors.{sectors_of}
-use Rattle.sector_device.specs.WholeSectors.{length-sectors_of}
-use Rattle.disk_model.specs.Sectors.{sector_of, raw_from}
-use Rattle.log_model.specs.declared.entry.Entry.{Entry}
-use Rattle.log_page.specs.declared.restart.Restart.{Restart}
-use Rattle.log_page.specs.Places.{first_page}
-use Rattle.log_page.specs.CheckWords.{IsCheckWord}
-use Rattle.log_page.specs.Restarts.{restart_spelling, is_newer, FitsRestart}
-use Rattle.log_page.specs.RestartLaws.{HasRanges}
-use Rattle.log_page.proofs.Spelled.{length-restart_spelling}
-use Rattle.log_reading.specs.Rings.{IsRingPlace}
-use Rattle.store_model.specs.Rings.{PagePlaces, Ring, Restarts, restart_place, synced_places}
+use Rattle.ring_laws.specs.fixup_record.Protecting.{protected_bytes}
+use Rattle.ring_laws.proofs.fixup_record.Protected.{length-protected}
+use Rattle.log_area.specs.sector_device.Disks.{Disk, SeesDisk, IsTornDisk, IsBetween, put, settled}
+use Rattle.log_area.specs.sector_device.Moments.{Changes}
+use Rattle.log_area.specs.sector_device.Sectors.{sectors_of}
+use Rattle.log_area.specs.sector_device.WholeSectors.{length-sectors_of}
+use Rattle.log_area.specs.disk_model.Sectors.{sector_of, raw_from}
+use Rattle.ring_laws.specs.log_model.declared.entry.Entry.{Entry}
+use Rattle.ring_laws.specs.log_page.declared.restart.Restart.{Restart}
+use Rattle.ring_laws.specs.log_page.Places.{first_page}
+use Rattle.ring_laws.specs.log_page.CheckWords.{IsCheckWord}
+use Rattle.ring_laws.specs.log_page.Restarts.{restart_spelling, is_newer, FitsRestart}
+use Rattle.ring_laws.specs.log_page.RestartLaws.{HasRanges}
+use Rattle.ring_laws.proofs.log_page.Spelled.{length-restart_spelling}
+use Rattle.ring_laws.specs.log_reading.Rings.{IsRingPlace}
+use Rattle.ring_laws.specs.store_model.Rings.{PagePlaces, Ring, Restarts, restart_place, synced_places}
 use Rattle.ring_laws.specs.Numbers.{LogSession}
 use Rattle.ring_laws.specs.PageBytes.{page_sector, AreAlike, spelled_restart}
 use Rattle.ring_laws.specs.RestartPages.{RestartFields, HoldsRestarts, with_next, restart_written, restart_sent, restart_synced, IsBelow}

@@ -1,11 +1,11 @@
 -- What a crash leaves of a ring, and which LSNs may be named.
 use Rattle.std.proofs.Common.{◌≡◌, ℕ, ◌+◌, ◌-◌, ◌*◌, ◌/◌, ◌%◌, ◌≤◌, List, sym, ap, ap₂, ◌∙◌, arith}
 use Rattle.std.proofs.lemmas.Nat.{div-add-mod'}
-use Rattle.disk_model.specs.Sectors.{sector_of}
-use Rattle.sector_device.specs.Disks.{Disk, MayLeave}
-use Rattle.log_model.specs.declared.entry.Entry.{Entry}
-use Rattle.log_page.specs.Places.{lap_of, page_of, is_in_ring}
-use Rattle.store_model.specs.Rings.{Ring, Restarts}
+use Rattle.log_area.specs.disk_model.Sectors.{sector_of}
+use Rattle.log_area.specs.sector_device.Disks.{Disk, MayLeave}
+use Rattle.ring_laws.specs.log_model.declared.entry.Entry.{Entry}
+use Rattle.ring_laws.specs.log_page.Places.{lap_of, page_of, is_in_ring}
+use Rattle.ring_laws.specs.store_model.Rings.{Ring, Restarts}
 use Rattle.ring_laws.specs.Numbers.{LogSession, lsn_of_page}
 use Rattle.ring_laws.specs.Laws.{ReadsFront}
 use Rattle.ring_laws.specs.RestartPages.{RestartFields, ChoosesRestart}

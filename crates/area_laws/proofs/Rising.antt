@@ -2,9 +2,9 @@
 use Rattle.std.proofs.Common.{◌≡◌, ◌⊎◌, ℕ, ◌+◌, ◌*◌, ◌^◌, ◌<◌, ◌≤◌, Bool, cond, List, sym, ap, ap₂, inl, inr, arith}
 use Rattle.std.proofs.lemmas.Bool.{cases_lt, lt-leb, le-leb}
 use Rattle.std.proofs.Math.Nat.{div-lt_iff_lt-mul}
-use Rattle.log_page.specs.Places.{place_bits, lap_of}
-use Rattle.log_page.proofs.PlacesFit.{log_fits}
-use Rattle.log_reading.specs.Rings.{IsRingPlace}
+use Rattle.ring_laws.specs.log_page.Places.{place_bits, lap_of}
+use Rattle.ring_laws.proofs.log_page.PlacesFit.{log_fits}
+use Rattle.ring_laws.specs.log_reading.Rings.{IsRingPlace}
 use Rattle.ring_laws.specs.Numbers.{LogSession, lap_of_page, lsn_of_page}
 use Rattle.ring_laws.proofs.Numbering.{first_number, lsns_rise}
 use Rattle.ring_laws.proofs.RingFacts.{has_ring, log_small}

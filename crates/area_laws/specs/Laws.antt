@@ -1,18 +1,18 @@
 -- The laws of a ring's calls.
 use Rattle.std.specs.Prelude.{◌≡◌, ◌≢◌, ◌⊎◌, ℕ, suc, ◌-◌, ◌^◌, ◌<◌, ◌≤◌, Bool, true, false, List, [], Option, Some, None, Result, Ok, Err, IfSome, drop}
 use Rattle.host_base.specs.declared.outside.Failed.{Failed}
-use Rattle.fixup_record.specs.Protecting.{protected_bytes}
-use Rattle.disk_model.specs.Sectors.{sector_of}
-use Rattle.sector_device.specs.Disks.{Disk, MayLeave, SeesDisk, IsSized, settled, seen}
-use Rattle.sector_device.specs.Moments.{Changes}
-use Rattle.log_model.specs.declared.entry.Entry.{Entry}
-use Rattle.log_model.specs.Entries.{entry_size, FitsEntry}
-use Rattle.log_page.specs.declared.restart.Restart.{Restart}
-use Rattle.log_page.specs.Places.{sequence_bits, lap_of}
-use Rattle.log_page.specs.LiveLogs.{said_lsn}
-use Rattle.log_page.specs.Restarts.{restart_spelling, is_blank}
-use Rattle.log_reading.specs.Rings.{IsRingPlace}
-use Rattle.store_model.specs.Rings.{PagePlaces, Ring, Restarts, synced_places}
+use Rattle.ring_laws.specs.fixup_record.Protecting.{protected_bytes}
+use Rattle.log_area.specs.disk_model.Sectors.{sector_of}
+use Rattle.log_area.specs.sector_device.Disks.{Disk, MayLeave, SeesDisk, IsSized, settled, seen}
+use Rattle.log_area.specs.sector_device.Moments.{Changes}
+use Rattle.ring_laws.specs.log_model.declared.entry.Entry.{Entry}
+use Rattle.ring_laws.specs.log_model.Entries.{entry_size, FitsEntry}
+use Rattle.ring_laws.specs.log_page.declared.restart.Restart.{Restart}
+use Rattle.ring_laws.specs.log_page.Places.{sequence_bits, lap_of}
+use Rattle.ring_laws.specs.log_page.LiveLogs.{said_lsn}
+use Rattle.ring_laws.specs.log_page.Restarts.{restart_spelling, is_blank}
+use Rattle.ring_laws.specs.log_reading.Rings.{IsRingPlace}
+use Rattle.ring_laws.specs.store_model.Rings.{PagePlaces, Ring, Restarts, synced_places}
 use Rattle.ring_laws.specs.Numbers.{LogSession, lsn_of_page, IsInRing}
 use Rattle.ring_laws.specs.PageBytes.{raw_page, IsStill, AreAlike}
 use Rattle.ring_laws.specs.Laws.{ReadsFront}

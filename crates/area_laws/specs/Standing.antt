@@ -1,13 +1,13 @@
 -- The ring of a log as its fields and a disk hold it.
 use Rattle.std.specs.Prelude.{◌≡◌, ◌⊎◌, ℕ, suc, ◌+◌, ◌-◌, ◌^◌, ◌==◌, ◌<◌, ◌≤◌, true, if◌then◌else◌, List, [], ◌∷◌, ◌++◌, length, drop, get_or, set, slice_index, Some, is_some, IfSome, unwrap_or}
-use Rattle.disk_model.specs.Bytes.{zeros}
-use Rattle.sector_device.specs.Disks.{Disk}
-use Rattle.log_model.specs.declared.entry.Entry.{Entry}
-use Rattle.log_model.specs.Entries.{entry_size}
-use Rattle.log_page.specs.Places.{page_bytes, entries_at}
-use Rattle.log_page.specs.PageSpellings.{end_lsn, entries_spelling, MakePage}
-use Rattle.log_page.specs.declared.restart.Restart.{Restart}
-use Rattle.store_model.specs.Rings.{Ring, Restarts, restart_place}
+use Rattle.log_area.specs.disk_model.Bytes.{zeros}
+use Rattle.log_area.specs.sector_device.Disks.{Disk}
+use Rattle.ring_laws.specs.log_model.declared.entry.Entry.{Entry}
+use Rattle.ring_laws.specs.log_model.Entries.{entry_size}
+use Rattle.ring_laws.specs.log_page.Places.{page_bytes, entries_at}
+use Rattle.ring_laws.specs.log_page.PageSpellings.{end_lsn, entries_spelling, MakePage}
+use Rattle.ring_laws.specs.log_page.declared.restart.Restart.{Restart}
+use Rattle.ring_laws.specs.store_model.Rings.{Ring, Restarts, restart_place}
 use Rattle.ring_laws.specs.Numbers.{LogSession, place_of_page, lap_of_page, lsn_of_page}
 use Rattle.ring_laws.specs.PageBytes.{page_sector}
 use Rattle.ring_laws.specs.RingPages.{HoldsRing}

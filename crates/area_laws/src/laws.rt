@@ -1,6 +1,6 @@
 ghost use Rattle.area_laws.specs.Laws.{CallsAreFollowed, RingIsFollowed};
 
-use sector_device::Device;
+use log_area::Device;
 
 /// Law: each call of a ring but for writes leaves one that follows the ring before: with an entry
 /// more, a page sealed, or all written pages durable. So does whatever is done in other sectors.

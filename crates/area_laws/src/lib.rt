@@ -8,3 +8,5 @@
 mod laws;
 
 pub use laws::{calls_are_followed, ring_is_followed};
+pub use log_area::{Device, LAST_MOMENT, LogPlace};
+pub use ring_laws::{View, ViewFault, lap_of, page_lsn};

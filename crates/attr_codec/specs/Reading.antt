@@ -1,6 +1,6 @@
 -- Reading of the attribute at the front of bytes.
 use Rattle.std.specs.Prelude.{ℕ, ◌*◌, ◌/◌, List, length, take, Result, Ok}
-use Rattle.host_base.specs.Answers.{Cause, refused, ◌>>=◌, needs}
+use Rattle.disk_model.specs.host_base.Answers.{Cause, refused, ◌>>=◌, needs}
 use Rattle.disk_model.specs.Numbers.{field}
 use Rattle.disk_model.specs.Bytes.{part}
 use Rattle.record_model.specs.declared.attribute.OwnForm.{OwnForm}

@@ -1,6 +1,6 @@
 ghost use Rattle.std.specs.Prelude.{◌≡◌, IfOk};
 
-use host_base::Bytes;
+use disk_model::Bytes;
 use record_model::{Attr, Head, OwnForm, Sizes, units_at};
 use std::alloc::{AllocError, Global};
 use thiserror::Error;

@@ -14,6 +14,7 @@ mod reading;
 mod writing;
 
 pub use borrowed::{AttrFault, AttrRef, Form};
+pub use disk_model::{u16_at, u32_at, u64_at};
 pub use laws::{read_is_spelled, spelled_is_read, written_is_read};
 pub use reading::read;
 pub use record_model::{Attr, Head, OwnForm, Sizes};

@@ -1,5 +1,5 @@
 ghost use Rattle.std.specs.Prelude.{◌≡◌, ◌≤◌, true, false, length, IfOk};
-ghost use Rattle.host_base.specs.Answers.{Gives};
+ghost use Rattle.disk_model.specs.host_base.Answers.{Gives};
 ghost use Rattle.disk_model.specs.Numbers.{field};
 ghost use Rattle.record_model.specs.Attributes.{is_mapped, header_length, is_name_inside, is_value_inside, is_inside, form_of};
 ghost use Rattle.attr_codec.specs.Reading.{own_bytes, attr_at, name_bytes, form_seen, attr_seen, attr_cause};

@@ -5,7 +5,7 @@ ghost use Rattle.attr_codec.specs.Writing.{resident_attr, mapped_attr};
 use crate::pushing::{
     front, header_length, push_filled, push_name, push_sizes, push_u16, push_u32, up8,
 };
-use host_base::Memory;
+use disk_model::Memory;
 use record_model::{Head, Sizes};
 use std::alloc::{AllocError, Global};
 

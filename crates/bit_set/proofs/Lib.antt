@@ -1,3 +1,4 @@
+pub use Rattle.host_base.proofs as host_base
 pub mod Bitwise
 pub mod Members
 pub mod Merging

@@ -12,5 +12,6 @@ mod summary;
 mod tree;
 mod words;
 
+pub use host_base::{Bytes, FileRef, Memory, is_same_reference};
 pub use laws::{clearing_takes_away, members_are_set_bits, same_members_same_bits, setting_unites};
 pub use set::BitSet;

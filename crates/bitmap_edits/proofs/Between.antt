@@ -20,9 +20,9 @@ use Rattle.plan_owners.specs.States.{Stands}
 use Rattle.plan_owners.specs.Kinds.{OwnsAs}
 use Rattle.plan_owners.proofs.Outside.{unused_outside}
 use Rattle.plan_bodies.specs.Bodies.{NewBody}
-use Rattle.draft_bitmaps.specs.declared.bitmap.Bitmap.{Bitmap}
-use Rattle.plan_growth.specs.Streams.{IsOwnStream}
-use Rattle.plan_edits.specs.Edits.{mirror_key}
+use Rattle.table_edits.specs.draft_bitmaps.declared.bitmap.Bitmap.{Bitmap}
+use Rattle.table_edits.specs.plan_growth.Streams.{IsOwnStream}
+use Rattle.table_edits.specs.plan_edits.Edits.{mirror_key}
 use Rattle.bitmap_edits.specs.Bitmaps.{IsClusterBitmap, KeepsOwners}
 
 -- ---- between two states

@@ -50,12 +50,12 @@ use Rattle.plan_draft.specs.declared.touched.Touched.{Touched}
 use Rattle.plan_draft.specs.Touching.{bodies_of}
 use Rattle.plan_draft.specs.Drafts.{drafted}
 use Rattle.plan_draft.proofs.Touching.{are_bodies}
-use Rattle.plan_model.specs.Drafts.{IsPut}
-use Rattle.plan_model.specs.Edits.{LeadsTo}
-use Rattle.plan_model.specs.Informed.{with_record}
-use Rattle.plan_model.proofs.Drafting.{per_is}
-use Rattle.plan_model.proofs.OneRecord.{own_record, OwnRecord, slot_begins, slot_put}
-use Rattle.plan_model.proofs.Quiet.{record_owned}
+use Rattle.table_edits.specs.plan_model.Drafts.{IsPut}
+use Rattle.table_edits.specs.plan_model.Edits.{LeadsTo}
+use Rattle.table_edits.specs.plan_model.Informed.{with_record}
+use Rattle.table_edits.proofs.plan_model.Drafting.{per_is}
+use Rattle.table_edits.proofs.plan_model.OneRecord.{own_record, OwnRecord, slot_begins, slot_put}
+use Rattle.table_edits.proofs.plan_model.Quiet.{record_owned}
 use Rattle.record_streams.proofs.Kept.{all_with, but_room_fits}
 use Rattle.record_streams.proofs.Streams.{placed_one}
 use Rattle.record_values.specs.Values.{valued_attr, valued_first, valued_record}
@@ -65,28 +65,28 @@ use Rattle.draft_bits.specs.Filling.{PutsBits}
 use Rattle.draft_bits.specs.Effects.{IsKept}
 use Rattle.draft_bits.proofs.BitEffects.{bits_put, drafted_same}
 use Rattle.draft_records.specs.Records.{fits_room, record_block, written_record}
-use Rattle.draft_bitmaps.specs.declared.bitmap.Bitmap.{Bitmap}
-use Rattle.draft_bitmaps.specs.Bitmaps.{bitmap_bit, byte_end, IsBitmap, IsShortStream, is_below, own_bytes, PutsInto, PutsPlacedBy, raised, with_extents, with_value}
-use Rattle.draft_bitmaps.specs.Effects.{HasApartSectors, LiesInRun, PutsBitmap, room_in}
-use Rattle.draft_bitmaps.proofs.BitmapEffects.{bitmap_put}
-use Rattle.draft_bitmaps.proofs.Room.{same_room}
-use Rattle.plan_growth.specs.Streams.{marks_streams}
-use Rattle.plan_growth.specs.Trees.{with_data}
-use Rattle.plan_growth.proofs.Placed.{some_attributes, stream_rule}
-use Rattle.plan_growth.proofs.Resizing.{no_system_shown}
-use Rattle.plan_growth.proofs.Ruled.{sizes_lawful}
-use Rattle.plan_growth.proofs.Written.{all_read, Reads}
-use Rattle.plan_table.proofs.Remade.{HasOther, IsOther, placed_other, valued_other}
-use Rattle.plan_values.proofs.Staying.{same_change}
-use Rattle.plan_values.proofs.Valued.{entries_named, limits_named}
-use Rattle.plan_edits.specs.Edits.{bitmap_key}
-use Rattle.plan_edits.specs.Moves.{EditsDraft}
-use Rattle.plan_edits.specs.Written.{IsInUse}
-use Rattle.plan_edits.proofs.Bitmap.{in_total, lies_by, state_bitmap}
-use Rattle.plan_edits.proofs.Editing.{mirror_owned, some_of, used_block}
-use Rattle.plan_edits.proofs.Putting.{content_goes, each_turned, Goes}
-use Rattle.plan_edits.proofs.Reading.{written_read}
-use Rattle.plan_edits.proofs.Recording.{no_sector}
+use Rattle.table_edits.specs.draft_bitmaps.declared.bitmap.Bitmap.{Bitmap}
+use Rattle.table_edits.specs.draft_bitmaps.Bitmaps.{bitmap_bit, byte_end, IsBitmap, IsShortStream, is_below, own_bytes, PutsInto, PutsPlacedBy, raised, with_extents, with_value}
+use Rattle.table_edits.specs.draft_bitmaps.Effects.{HasApartSectors, LiesInRun, PutsBitmap, room_in}
+use Rattle.table_edits.proofs.draft_bitmaps.BitmapEffects.{bitmap_put}
+use Rattle.table_edits.proofs.draft_bitmaps.Room.{same_room}
+use Rattle.table_edits.specs.plan_growth.Streams.{marks_streams}
+use Rattle.table_edits.specs.plan_growth.Trees.{with_data}
+use Rattle.table_edits.proofs.plan_growth.Placed.{some_attributes, stream_rule}
+use Rattle.table_edits.proofs.plan_growth.Resizing.{no_system_shown}
+use Rattle.table_edits.proofs.plan_growth.Ruled.{sizes_lawful}
+use Rattle.table_edits.proofs.plan_growth.Written.{all_read, Reads}
+use Rattle.table_edits.proofs.plan_table.Remade.{HasOther, IsOther, placed_other, valued_other}
+use Rattle.table_edits.proofs.plan_values.Staying.{same_change}
+use Rattle.table_edits.proofs.plan_values.Valued.{entries_named, limits_named}
+use Rattle.table_edits.specs.plan_edits.Edits.{bitmap_key}
+use Rattle.table_edits.specs.plan_edits.Moves.{EditsDraft}
+use Rattle.table_edits.specs.plan_edits.Written.{IsInUse}
+use Rattle.table_edits.proofs.plan_edits.Bitmap.{in_total, lies_by, state_bitmap}
+use Rattle.table_edits.proofs.plan_edits.Editing.{mirror_owned, some_of, used_block}
+use Rattle.table_edits.proofs.plan_edits.Putting.{content_goes, each_turned, Goes}
+use Rattle.table_edits.proofs.plan_edits.Reading.{written_read}
+use Rattle.table_edits.proofs.plan_edits.Recording.{no_sector}
 use Rattle.table_edits.proofs.Steps.{bitmap_goes, IsComing, IsOfBitmap}
 use Rattle.bitmap_edits.specs.Bitmaps.{IsClusterBitmap, KeepsOwners, PutsFreeBits, RoomDiffers, StandsAs}
 use Rattle.bitmap_edits.proofs.Now.{alike_itself, alike_written, AreAlike, HasNow, now_by, now_itself}

@@ -27,15 +27,15 @@ use Rattle.plan_bodies.proofs.Putting.{all_in_both, are_bodies as both_are, cont
 use Rattle.plan_draft.specs.declared.touched.Touched.{Touched}
 use Rattle.plan_draft.specs.Touching.{bodies_of}
 use Rattle.plan_draft.specs.Drafts.{drafted}
-use Rattle.plan_model.specs.Drafts.{IsPut}
-use Rattle.plan_model.proofs.OneRecord.{own_record}
+use Rattle.table_edits.specs.plan_model.Drafts.{IsPut}
+use Rattle.table_edits.proofs.plan_model.OneRecord.{own_record}
 use Rattle.draft_bits.specs.Effects.{IsKept}
-use Rattle.draft_bitmaps.specs.declared.bitmap.Bitmap.{Bitmap}
-use Rattle.draft_bitmaps.specs.Bitmaps.{IsBitmap}
-use Rattle.plan_edits.specs.Edits.{mirror_key}
-use Rattle.plan_edits.specs.Moves.{EditsDraft}
-use Rattle.plan_edits.proofs.Putting.{content_goes, found_in, joined_same, left_put, right_put}
-use Rattle.plan_edits.proofs.Reading.{written_read}
+use Rattle.table_edits.specs.draft_bitmaps.declared.bitmap.Bitmap.{Bitmap}
+use Rattle.table_edits.specs.draft_bitmaps.Bitmaps.{IsBitmap}
+use Rattle.table_edits.specs.plan_edits.Edits.{mirror_key}
+use Rattle.table_edits.specs.plan_edits.Moves.{EditsDraft}
+use Rattle.table_edits.proofs.plan_edits.Putting.{content_goes, found_in, joined_same, left_put, right_put}
+use Rattle.table_edits.proofs.plan_edits.Reading.{written_read}
 use Rattle.bitmap_edits.specs.Bitmaps.{IsClusterBitmap, KeepsOwners, PutsClustersIn, PutsFreeBits, PutsFreeRuns, PutsOwnersKept, PutsRunsIn, RoomDiffers}
 use Rattle.bitmap_edits.proofs.FreeBits.{bitmap_now, bitmap_rule, edits, inside_bit, keeps_owners, new_kept, other_bit, put_bodies_of, w}
 

@@ -33,20 +33,20 @@ use Rattle.plan_bodies.proofs.Putting.{all_in_both, are_bodies as both_are, size
 use Rattle.plan_draft.specs.declared.touched.Touched.{Touched}
 use Rattle.plan_draft.specs.Touching.{bodies_of}
 use Rattle.plan_draft.specs.Drafts.{drafted}
-use Rattle.plan_model.specs.Drafts.{FollowsOwners, GoesOn, IsPut}
-use Rattle.plan_model.specs.Informed.{with_record}
-use Rattle.plan_model.proofs.OneRecord.{own_record}
+use Rattle.table_edits.specs.plan_model.Drafts.{FollowsOwners, GoesOn, IsPut}
+use Rattle.table_edits.specs.plan_model.Informed.{with_record}
+use Rattle.table_edits.proofs.plan_model.OneRecord.{own_record}
 use Rattle.draft_records.specs.Records.{written_record}
-use Rattle.draft_bitmaps.specs.declared.bitmap.Bitmap.{Bitmap}
-use Rattle.plan_growth.specs.Streams.{key_of, marks_streams}
-use Rattle.plan_growth.specs.Trees.{TreeFollows}
-use Rattle.plan_growth.proofs.Resizing.{clusters_are}
-use Rattle.plan_edits.specs.Edits.{mirror_key}
-use Rattle.plan_edits.specs.Moves.{EditsDraft}
-use Rattle.plan_edits.specs.Records.{IsRecordEdit, PutsRecordOf}
-use Rattle.plan_edits.specs.Written.{IsInUse}
-use Rattle.plan_edits.proofs.Reading.{written_read}
-use Rattle.plan_edits.proofs.Recording.{record_edit}
+use Rattle.table_edits.specs.draft_bitmaps.declared.bitmap.Bitmap.{Bitmap}
+use Rattle.table_edits.specs.plan_growth.Streams.{key_of, marks_streams}
+use Rattle.table_edits.specs.plan_growth.Trees.{TreeFollows}
+use Rattle.table_edits.proofs.plan_growth.Resizing.{clusters_are}
+use Rattle.table_edits.specs.plan_edits.Edits.{mirror_key}
+use Rattle.table_edits.specs.plan_edits.Moves.{EditsDraft}
+use Rattle.table_edits.specs.plan_edits.Records.{IsRecordEdit, PutsRecordOf}
+use Rattle.table_edits.specs.plan_edits.Written.{IsInUse}
+use Rattle.table_edits.proofs.plan_edits.Reading.{written_read}
+use Rattle.table_edits.proofs.plan_edits.Recording.{record_edit}
 use Rattle.bitmap_edits.specs.Bitmaps.{PutsFreeRuns, PutsOwnersKept}
 use Rattle.bitmap_edits.specs.Streams.{CutsWithBits, HasCut, ResizedWithBits}
 use Rattle.bitmap_edits.proofs.FreeRuns.{both_edit, put_first, put_second, runs_put}

@@ -38,18 +38,18 @@ use Rattle.resized_streams.specs.declared.resized.Resized.{Resized}
 use Rattle.resized_streams.specs.Resizing.{clusters_for, IsGrown, lengthened, unplaced}
 use Rattle.plan_owners.specs.States.{Stands}
 use Rattle.plan_bodies.specs.Bodies.{AreBodies, content_with, NewBody}
-use Rattle.plan_model.specs.Drafts.{IsPut}
-use Rattle.plan_model.specs.Made.{ReadsAs}
-use Rattle.plan_model.proofs.Drafting.{per_is}
-use Rattle.plan_edits.specs.Puts.{IsSectorOf}
-use Rattle.plan_growth.specs.Streams.{IsOwnStream, IsWritten, key_of}
-use Rattle.plan_growth.proofs.Growing.{total-grown, uses-grown}
-use Rattle.plan_growth.proofs.Placed.{other_pieces, placed_all, placed_directory, placed_head, placed_info, placed_is_there, placed_links, placed_names, placed_root, placed_sizes, placed_types, placed_uses, some_attributes}
-use Rattle.plan_growth.proofs.Ruled.{stream_joined}
-use Rattle.plan_growth.proofs.Runs.{grown_inside, grown_whole}
-use Rattle.plan_growth.proofs.Sizing.{mirror_record}
-use Rattle.plan_growth.proofs.Written.{placed_reads, Reads}
-use Rattle.plan_table.proofs.Remade.{HasOther, IsOther}
+use Rattle.table_edits.specs.plan_model.Drafts.{IsPut}
+use Rattle.table_edits.specs.plan_model.Made.{ReadsAs}
+use Rattle.table_edits.proofs.plan_model.Drafting.{per_is}
+use Rattle.table_edits.specs.plan_edits.Puts.{IsSectorOf}
+use Rattle.table_edits.specs.plan_growth.Streams.{IsOwnStream, IsWritten, key_of}
+use Rattle.table_edits.proofs.plan_growth.Growing.{total-grown, uses-grown}
+use Rattle.table_edits.proofs.plan_growth.Placed.{other_pieces, placed_all, placed_directory, placed_head, placed_info, placed_is_there, placed_links, placed_names, placed_root, placed_sizes, placed_types, placed_uses, some_attributes}
+use Rattle.table_edits.proofs.plan_growth.Ruled.{stream_joined}
+use Rattle.table_edits.proofs.plan_growth.Runs.{grown_inside, grown_whole}
+use Rattle.table_edits.proofs.plan_growth.Sizing.{mirror_record}
+use Rattle.table_edits.proofs.plan_growth.Written.{placed_reads, Reads}
+use Rattle.table_edits.proofs.plan_table.Remade.{HasOther, IsOther}
 use Rattle.bitmap_edits.proofs.OwnRuns.{MovesRuns, own_other}
 use Rattle.bitmap_edits.proofs.Restreaming.{Follows, GoesFar, GoesTo, owned_once}
 

@@ -36,14 +36,14 @@ use Rattle.resized_streams.specs.declared.resized.Resized.{Resized}
 use Rattle.resized_streams.specs.Resizing.{IsGrown, lengthened}
 use Rattle.plan_owners.specs.States.{Stands}
 use Rattle.plan_bodies.specs.Bodies.{content_with, NewBody}
-use Rattle.plan_model.specs.Drafts.{IsPut}
-use Rattle.plan_model.proofs.Drafting.{per_is}
-use Rattle.plan_growth.specs.Streams.{IsOwnStream, IsWritten, key_of, marks_streams, PutsFile}
-use Rattle.plan_growth.proofs.Alike.{one_cluster, SamePlaces, untorn_alike}
-use Rattle.plan_growth.proofs.Growing.{counted, still_allocated, total-grown, uses-grown}
-use Rattle.plan_growth.proofs.Ruled.{sizes_lawful, stream_fits}
-use Rattle.plan_growth.proofs.Runs.{end_is_total, grown_inside, grown_whole}
-use Rattle.plan_table.proofs.Remade.{HasOther, placed_other}
+use Rattle.table_edits.specs.plan_model.Drafts.{IsPut}
+use Rattle.table_edits.proofs.plan_model.Drafting.{per_is}
+use Rattle.table_edits.specs.plan_growth.Streams.{IsOwnStream, IsWritten, key_of, marks_streams, PutsFile}
+use Rattle.table_edits.proofs.plan_growth.Alike.{one_cluster, SamePlaces, untorn_alike}
+use Rattle.table_edits.proofs.plan_growth.Growing.{counted, still_allocated, total-grown, uses-grown}
+use Rattle.table_edits.proofs.plan_growth.Ruled.{sizes_lawful, stream_fits}
+use Rattle.table_edits.proofs.plan_growth.Runs.{end_is_total, grown_inside, grown_whole}
+use Rattle.table_edits.proofs.plan_table.Remade.{HasOther, placed_other}
 use Rattle.bitmap_edits.proofs.OwnRuns.{MovesRuns, own_other, reads_stay}
 use Rattle.bitmap_edits.proofs.Restreaming.{as_far, Follows, owned_once}
 

@@ -33,24 +33,24 @@ use Rattle.plan_bodies.proofs.Putting.{all_in_both, are_bodies as both_are, size
 use Rattle.plan_draft.specs.declared.touched.Touched.{Touched}
 use Rattle.plan_draft.specs.Touching.{bodies_of}
 use Rattle.plan_draft.specs.Drafts.{drafted}
-use Rattle.plan_model.specs.Drafts.{FollowsOwners, GoesOn, gives_runs, IsPut}
-use Rattle.plan_model.specs.Informed.{with_record}
-use Rattle.plan_model.proofs.OneRecord.{own_record}
-use Rattle.plan_model.proofs.Quiet.{record_owned, given_before, given_clear, given_here}
+use Rattle.table_edits.specs.plan_model.Drafts.{FollowsOwners, GoesOn, gives_runs, IsPut}
+use Rattle.table_edits.specs.plan_model.Informed.{with_record}
+use Rattle.table_edits.proofs.plan_model.OneRecord.{own_record}
+use Rattle.table_edits.proofs.plan_model.Quiet.{record_owned, given_before, given_clear, given_here}
 use Rattle.draft_bits.specs.Effects.{IsKept}
 use Rattle.draft_records.specs.Records.{touch_record, written_record}
-use Rattle.draft_bitmaps.specs.declared.bitmap.Bitmap.{Bitmap}
-use Rattle.plan_growth.specs.Growing.{MayGive}
-use Rattle.plan_growth.specs.Streams.{IsOwnStream, key_of}
-use Rattle.plan_growth.specs.Trees.{TreeFollows}
-use Rattle.plan_growth.proofs.Growing.{uses-grown}
-use Rattle.plan_growth.proofs.Resizing.{clusters_are}
-use Rattle.plan_edits.specs.Edits.{bitmap_key}
-use Rattle.plan_edits.specs.Moves.{EditsDraft}
-use Rattle.plan_edits.specs.Records.{IsRecordEdit, PutsRecordOf}
-use Rattle.plan_edits.specs.Written.{IsInUse}
-use Rattle.plan_edits.proofs.Reading.{written_read}
-use Rattle.plan_edits.proofs.Recording.{record_edit}
+use Rattle.table_edits.specs.draft_bitmaps.declared.bitmap.Bitmap.{Bitmap}
+use Rattle.table_edits.specs.plan_growth.Growing.{MayGive}
+use Rattle.table_edits.specs.plan_growth.Streams.{IsOwnStream, key_of}
+use Rattle.table_edits.specs.plan_growth.Trees.{TreeFollows}
+use Rattle.table_edits.proofs.plan_growth.Growing.{uses-grown}
+use Rattle.table_edits.proofs.plan_growth.Resizing.{clusters_are}
+use Rattle.table_edits.specs.plan_edits.Edits.{bitmap_key}
+use Rattle.table_edits.specs.plan_edits.Moves.{EditsDraft}
+use Rattle.table_edits.specs.plan_edits.Records.{IsRecordEdit, PutsRecordOf}
+use Rattle.table_edits.specs.plan_edits.Written.{IsInUse}
+use Rattle.table_edits.proofs.plan_edits.Reading.{written_read}
+use Rattle.table_edits.proofs.plan_edits.Recording.{record_edit}
 use Rattle.bitmap_edits.specs.Bitmaps.{PutsFreeRuns, PutsOwnersKept}
 use Rattle.bitmap_edits.proofs.FreeRuns.{both_edit, owns_back, put_first, put_second, runs_put}
 use Rattle.bitmap_edits.proofs.OwnRuns.{bits_stay, file_now, files_stay, leads, live_before, MovesRuns, owned_or_new, owners, stream_now, tree}
@@ -63,13 +63,13 @@ use Rattle.stream_laws.specs.Leaving.{LiesFree}
 use Rattle.stream_laws.proofs.Leaving.{free_apart, free_in_runs}
 use Rattle.draft_streams.specs.Parts.{first_sector, touch_bytes}
 use Rattle.plan_bodies.specs.Bodies.{AreBodies, body_in}
-use Rattle.plan_model.specs.Made.{ReadsAs}
+use Rattle.table_edits.specs.plan_model.Made.{ReadsAs}
 use Rattle.resized_streams.specs.Resizing.{unplaced}
-use Rattle.plan_edits.specs.Puts.{IsSectorOf, IsSectorWith}
-use Rattle.plan_edits.proofs.Bitmap.{shares_itself}
-use Rattle.plan_edits.proofs.Moving.{none_in}
-use Rattle.plan_edits.proofs.Putting.{bytes_go, content_goes, each_turned, found_in, Goes}
-use Rattle.plan_edits.proofs.Recording.{bits_stay as record_bits_stay, no_sector}
+use Rattle.table_edits.specs.plan_edits.Puts.{IsSectorOf, IsSectorWith}
+use Rattle.table_edits.proofs.plan_edits.Bitmap.{shares_itself}
+use Rattle.table_edits.proofs.plan_edits.Moving.{none_in}
+use Rattle.table_edits.proofs.plan_edits.Putting.{bytes_go, content_goes, each_turned, found_in, Goes}
+use Rattle.table_edits.proofs.plan_edits.Recording.{bits_stay as record_bits_stay, no_sector}
 use Rattle.table_edits.proofs.Steps.{away}
 use Rattle.std.specs.Prelude.{map, slice_index}
 use Rattle.std.specs.List.{range_with_len}
@@ -80,11 +80,11 @@ use Rattle.volume_model.specs.Sizes.{fits_volume}
 use Rattle.draft_streams.specs.Effects.{byte_put, HasOwnSectors}
 use Rattle.draft_streams.proofs.Effecting.{effects}
 use Rattle.draft_bits.proofs.BitEffects.{byte_there}
-use Rattle.plan_model.proofs.Drafting.{per_is}
-use Rattle.plan_growth.proofs.Ruled.{sizes_lawful}
-use Rattle.plan_growth.proofs.Runs.{grown_whole}
-use Rattle.plan_edits.proofs.Bitmap.{in_total, lies_by, own_by}
-use Rattle.plan_edits.proofs.Editing.{some_of}
+use Rattle.table_edits.proofs.plan_model.Drafting.{per_is}
+use Rattle.table_edits.proofs.plan_growth.Ruled.{sizes_lawful}
+use Rattle.table_edits.proofs.plan_growth.Runs.{grown_whole}
+use Rattle.table_edits.proofs.plan_edits.Bitmap.{in_total, lies_by, own_by}
+use Rattle.table_edits.proofs.plan_edits.Editing.{some_of}
 use Rattle.bitmap_edits.specs.Streams.{HasMoved, IsDraftOf, MovesWithBits}
 use Rattle.bitmap_edits.proofs.Leaving.{leaves_runs, LeavesSet, used_by}
 use Rattle.bitmap_edits.proofs.Restreaming.{GoesTo}

@@ -15,10 +15,10 @@ use Rattle.volume_model.specs.Nodes.{first_flags}
 use Rattle.volume_model.specs.Owners.{file_runs, uses}
 use Rattle.volume_model.specs.Sizes.{fits_volume, keeps_stream}
 use Rattle.stream_laws.specs.Sharing.{runs_in}
-use Rattle.plan_growth.specs.Streams.{IsWritten}
-use Rattle.plan_growth.proofs.Placed.{same_or_other}
-use Rattle.plan_growth.proofs.Written.{Reads, written_types, written_directory, written_links, written_names, written_root, written_info, written_stream, written_flags, written_runs, written_sizes}
-use Rattle.plan_table.proofs.Remade.{HasOther}
+use Rattle.table_edits.specs.plan_growth.Streams.{IsWritten}
+use Rattle.table_edits.proofs.plan_growth.Placed.{same_or_other}
+use Rattle.table_edits.proofs.plan_growth.Written.{Reads, written_types, written_directory, written_links, written_names, written_root, written_info, written_stream, written_flags, written_runs, written_sizes}
+use Rattle.table_edits.proofs.plan_table.Remade.{HasOther}
 
 -- ---- records that are read alike
 

@@ -33,17 +33,17 @@ use Rattle.plan_owners.specs.States.{Stands}
 use Rattle.plan_owners.specs.Kinds.{OwnsAs}
 use Rattle.plan_owners.proofs.Standing.{some_file}
 use Rattle.plan_bodies.specs.Bodies.{AreBodies, content_with, NewBody}
-use Rattle.plan_model.specs.Drafts.{IsPut}
-use Rattle.plan_model.specs.Made.{ReadsAs}
-use Rattle.plan_model.specs.Edits.{LeadsTo}
-use Rattle.plan_model.specs.Informed.{with_record}
-use Rattle.plan_model.proofs.OneRecord.{own_record, OwnRecord, slot_begins, slot_put}
-use Rattle.plan_model.proofs.Quiet.{record_owned}
-use Rattle.plan_growth.specs.Streams.{IsOwnStream, IsWritten, key_of, marks_streams}
-use Rattle.plan_growth.specs.Trees.{TreeFollows}
-use Rattle.plan_growth.proofs.Resizing.{slot_open, used_pairs}
-use Rattle.plan_growth.proofs.Written.{all_read, Reads}
-use Rattle.plan_table.proofs.Remade.{HasOther, IsOther}
+use Rattle.table_edits.specs.plan_model.Drafts.{IsPut}
+use Rattle.table_edits.specs.plan_model.Made.{ReadsAs}
+use Rattle.table_edits.specs.plan_model.Edits.{LeadsTo}
+use Rattle.table_edits.specs.plan_model.Informed.{with_record}
+use Rattle.table_edits.proofs.plan_model.OneRecord.{own_record, OwnRecord, slot_begins, slot_put}
+use Rattle.table_edits.proofs.plan_model.Quiet.{record_owned}
+use Rattle.table_edits.specs.plan_growth.Streams.{IsOwnStream, IsWritten, key_of, marks_streams}
+use Rattle.table_edits.specs.plan_growth.Trees.{TreeFollows}
+use Rattle.table_edits.proofs.plan_growth.Resizing.{slot_open, used_pairs}
+use Rattle.table_edits.proofs.plan_growth.Written.{all_read, Reads}
+use Rattle.table_edits.proofs.plan_table.Remade.{HasOther, IsOther}
 use Rattle.bitmap_edits.proofs.Now.{alike_itself, alike_written, HasNow, now_by}
 use Rattle.bitmap_edits.proofs.Restreaming.{clusters_now, file_there, five_by, Follows, GoesFar, GoesTo, IsOneFile, now_leads, now_tree, one_differs, one_edit, owned_set, own_now, reads_on, same_files, six_by, which}
 

@@ -70,16 +70,16 @@ use Rattle.tree_laws.proofs.Ruling.{same_listed, same_name_in, same_count, keeps
 use Rattle.plan_owners.specs.States.{Stands}
 use Rattle.plan_owners.proofs.Standing.{some_file, as_file, rule_4_at}
 use Rattle.plan_bodies.specs.Bodies.{NewBody, whole_write, writes_in, content_with}
-use Rattle.plan_model.specs.Edits.{IsOwnedIn, WritesFiles, LeadsTo}
-use Rattle.plan_model.specs.Informed.{with_record}
-use Rattle.plan_model.proofs.Drafting.{per_is}
-use Rattle.plan_model.proofs.Informing.{slot_in_use, marked_in_use, implied}
-use Rattle.plan_model.proofs.OneRecord.{streams_test, by_test, OwnRecord, own_record, file_slot}
-use Rattle.plan_model.proofs.Stepping.{written_within, files_edited, tree_nodes}
-use Rattle.plan_growth.specs.Streams.{key_of, marks_streams}
-use Rattle.plan_growth.specs.Trees.{with_data, TreeFollows}
-use Rattle.plan_growth.proofs.Placed.{same_or_other}
-use Rattle.plan_growth.proofs.Resizing.{none_of_two, inside_none, not_marks, not_marked, not_named, no_system_shown, void_apart, not_allocation, mapped}
+use Rattle.table_edits.specs.plan_model.Edits.{IsOwnedIn, WritesFiles, LeadsTo}
+use Rattle.table_edits.specs.plan_model.Informed.{with_record}
+use Rattle.table_edits.proofs.plan_model.Drafting.{per_is}
+use Rattle.table_edits.proofs.plan_model.Informing.{slot_in_use, marked_in_use, implied}
+use Rattle.table_edits.proofs.plan_model.OneRecord.{streams_test, by_test, OwnRecord, own_record, file_slot}
+use Rattle.table_edits.proofs.plan_model.Stepping.{written_within, files_edited, tree_nodes}
+use Rattle.table_edits.specs.plan_growth.Streams.{key_of, marks_streams}
+use Rattle.table_edits.specs.plan_growth.Trees.{with_data, TreeFollows}
+use Rattle.table_edits.proofs.plan_growth.Placed.{same_or_other}
+use Rattle.table_edits.proofs.plan_growth.Resizing.{none_of_two, inside_none, not_marks, not_marked, not_named, no_system_shown, void_apart, not_allocation, mapped}
 use Rattle.bitmap_edits.proofs.Now.{HasNow}
 
 -- a file that is neither $MFT nor $UpCase, and has no attribute list

@@ -19,20 +19,20 @@ use Rattle.volume_model.specs.Sizes.{fits_volume, has_sizes, lies_below, lies_in
 use Rattle.plan_owners.specs.States.{Stands}
 use Rattle.plan_draft.specs.declared.touched.Touched.{Touched}
 use Rattle.plan_draft.specs.Drafts.{drafted}
-use Rattle.plan_model.proofs.Drafting.{per_is}
+use Rattle.table_edits.proofs.plan_model.Drafting.{per_is}
 use Rattle.record_streams.specs.Placing.{placed_attr, placed_record}
 use Rattle.record_streams.proofs.Fits.{fits_placed}
 use Rattle.record_streams.proofs.Streams.{placed_one}
 use Rattle.record_values.specs.Values.{valued_attr}
 use Rattle.record_values.proofs.Valued.{fits_valued, values_put}
 use Rattle.draft_records.specs.Records.{fits_room}
-use Rattle.draft_bitmaps.specs.declared.bitmap.Bitmap.{Bitmap}
-use Rattle.draft_bitmaps.specs.Bitmaps.{byte_end, IsBitmap, is_below, IsShortStream, PutsBitsOf, PutsInto, PutsPlacedBy, raised, with_extents, with_value}
-use Rattle.draft_bitmaps.specs.Effects.{room_in, room_of}
-use Rattle.draft_bitmaps.proofs.Room.{same_room}
-use Rattle.draft_growth.specs.Clusters.{PutsClustersOf, PutsRunsOf}
-use Rattle.plan_growth.proofs.Placed.{some_attributes}
-use Rattle.plan_growth.proofs.Ruled.{sizes_lawful}
+use Rattle.table_edits.specs.draft_bitmaps.declared.bitmap.Bitmap.{Bitmap}
+use Rattle.table_edits.specs.draft_bitmaps.Bitmaps.{byte_end, IsBitmap, is_below, IsShortStream, PutsBitsOf, PutsInto, PutsPlacedBy, raised, with_extents, with_value}
+use Rattle.table_edits.specs.draft_bitmaps.Effects.{room_in, room_of}
+use Rattle.table_edits.proofs.draft_bitmaps.Room.{same_room}
+use Rattle.table_edits.specs.draft_growth.Clusters.{PutsClustersOf, PutsRunsOf}
+use Rattle.table_edits.proofs.plan_growth.Placed.{some_attributes}
+use Rattle.table_edits.proofs.plan_growth.Ruled.{sizes_lawful}
 use Rattle.table_edits.proofs.Again.{placed_again, valued_again}
 use Rattle.bitmap_edits.specs.Bitmaps.{BitsAreEdit, IsClusterBitmap, PutsClustersIn, PutsRunsIn}
 use Rattle.bitmap_edits.proofs.FreeBits.{alike_of, bitmap_long, bitmap_rule}

@@ -30,22 +30,22 @@ use Rattle.plan_bodies.proofs.Putting.{all_in_both, are_bodies as both_are, size
 use Rattle.plan_draft.specs.declared.touched.Touched.{Touched}
 use Rattle.plan_draft.specs.Touching.{bodies_of}
 use Rattle.plan_draft.specs.Drafts.{drafted}
-use Rattle.plan_model.specs.Drafts.{FollowsOwners, GoesOn, gives_runs, IsPut}
-use Rattle.plan_model.specs.Informed.{with_record}
-use Rattle.plan_model.proofs.OneRecord.{own_record}
-use Rattle.plan_model.proofs.Quiet.{given_before, given_clear, given_here}
+use Rattle.table_edits.specs.plan_model.Drafts.{FollowsOwners, GoesOn, gives_runs, IsPut}
+use Rattle.table_edits.specs.plan_model.Informed.{with_record}
+use Rattle.table_edits.proofs.plan_model.OneRecord.{own_record}
+use Rattle.table_edits.proofs.plan_model.Quiet.{given_before, given_clear, given_here}
 use Rattle.draft_records.specs.Records.{touch_record, written_record}
-use Rattle.draft_bitmaps.specs.declared.bitmap.Bitmap.{Bitmap}
-use Rattle.plan_growth.specs.Growing.{MayGive}
-use Rattle.plan_growth.specs.Streams.{IsOwnStream, key_of, marks_streams}
-use Rattle.plan_growth.specs.Trees.{TreeFollows}
-use Rattle.plan_growth.proofs.Growing.{uses-grown}
-use Rattle.plan_growth.proofs.Resizing.{clusters_are}
-use Rattle.plan_edits.specs.Moves.{EditsDraft}
-use Rattle.plan_edits.specs.Records.{IsRecordEdit, PutsRecordOf}
-use Rattle.plan_edits.specs.Written.{IsInUse}
-use Rattle.plan_edits.proofs.Reading.{written_read}
-use Rattle.plan_edits.proofs.Recording.{record_edit}
+use Rattle.table_edits.specs.draft_bitmaps.declared.bitmap.Bitmap.{Bitmap}
+use Rattle.table_edits.specs.plan_growth.Growing.{MayGive}
+use Rattle.table_edits.specs.plan_growth.Streams.{IsOwnStream, key_of, marks_streams}
+use Rattle.table_edits.specs.plan_growth.Trees.{TreeFollows}
+use Rattle.table_edits.proofs.plan_growth.Growing.{uses-grown}
+use Rattle.table_edits.proofs.plan_growth.Resizing.{clusters_are}
+use Rattle.table_edits.specs.plan_edits.Moves.{EditsDraft}
+use Rattle.table_edits.specs.plan_edits.Records.{IsRecordEdit, PutsRecordOf}
+use Rattle.table_edits.specs.plan_edits.Written.{IsInUse}
+use Rattle.table_edits.proofs.plan_edits.Reading.{written_read}
+use Rattle.table_edits.proofs.plan_edits.Recording.{record_edit}
 use Rattle.bitmap_edits.specs.Bitmaps.{PutsFreeRuns, PutsOwnersKept}
 use Rattle.bitmap_edits.specs.Streams.{GrowsWithBits, HasGrown, IsDraftOf}
 use Rattle.bitmap_edits.proofs.FreeRuns.{both_edit, owns_back, put_first, put_second, runs_put}

@@ -21,21 +21,21 @@ use Rattle.volume_state.specs.Trees.{tree_of}
 use Rattle.stream_laws.specs.Owners.{initialised_in, IsLive, Owns}
 use Rattle.stream_laws.specs.Sharing.{runs_in, stream_at, StreamKey}
 use Rattle.stream_laws.specs.Tables.{table_key}
-use Rattle.plan_growth.specs.Streams.{marks_streams}
+use Rattle.table_edits.specs.plan_growth.Streams.{marks_streams}
 use Rattle.plan_owners.specs.States.{Stands}
 use Rattle.plan_bodies.specs.Bodies.{AreBodies, content_with, NewBody}
-use Rattle.plan_model.specs.Drafts.{IsPut}
+use Rattle.table_edits.specs.plan_model.Drafts.{IsPut}
 use Rattle.plan_draft.specs.declared.touched.Touched.{Touched}
 use Rattle.plan_draft.specs.Drafts.{drafted}
 use Rattle.draft_bits.specs.Effects.{IsKept}
 use Rattle.draft_records.specs.Records.{written_record}
-use Rattle.draft_bitmaps.specs.declared.bitmap.Bitmap.{Bitmap}
-use Rattle.draft_bitmaps.specs.Bitmaps.{IsBitmap, PutsBitsOf}
-use Rattle.draft_bitmaps.specs.Effects.{room_of}
-use Rattle.draft_growth.specs.Clusters.{PutsRunsOf}
-use Rattle.plan_edits.specs.Edits.{bitmap_key, mirror_key}
-use Rattle.plan_edits.specs.Moves.{EditsDraft}
-use Rattle.plan_edits.specs.Written.{IsInUse}
+use Rattle.table_edits.specs.draft_bitmaps.declared.bitmap.Bitmap.{Bitmap}
+use Rattle.table_edits.specs.draft_bitmaps.Bitmaps.{IsBitmap, PutsBitsOf}
+use Rattle.table_edits.specs.draft_bitmaps.Effects.{room_of}
+use Rattle.table_edits.specs.draft_growth.Clusters.{PutsRunsOf}
+use Rattle.table_edits.specs.plan_edits.Edits.{bitmap_key, mirror_key}
+use Rattle.table_edits.specs.plan_edits.Moves.{EditsDraft}
+use Rattle.table_edits.specs.plan_edits.Written.{IsInUse}
 
 -- ---- the bitmap
 

@@ -24,17 +24,17 @@ use Rattle.plan_owners.specs.States.{Stands}
 use Rattle.plan_bodies.specs.Bodies.{NewBody}
 use Rattle.plan_draft.specs.declared.touched.Touched.{Touched}
 use Rattle.plan_draft.specs.Drafts.{drafted}
-use Rattle.plan_model.specs.Drafts.{GoesOn, gives_runs}
-use Rattle.plan_model.specs.Informed.{with_record}
+use Rattle.table_edits.specs.plan_model.Drafts.{GoesOn, gives_runs}
+use Rattle.table_edits.specs.plan_model.Informed.{with_record}
 use Rattle.draft_streams.specs.Parts.{touch_bytes}
 use Rattle.draft_bits.specs.Effects.{IsKept}
 use Rattle.draft_records.specs.Records.{fits_room, touch_record, written_record}
-use Rattle.draft_bitmaps.specs.declared.bitmap.Bitmap.{Bitmap}
-use Rattle.plan_growth.specs.Growing.{MayGive}
-use Rattle.plan_growth.specs.Streams.{IsOwnStream, key_of, marks_streams, MayTake}
-use Rattle.plan_growth.specs.Trees.{TreeFollows}
-use Rattle.plan_edits.specs.Edits.{mirror_key}
-use Rattle.plan_edits.specs.Moves.{EditsDraft}
+use Rattle.table_edits.specs.draft_bitmaps.declared.bitmap.Bitmap.{Bitmap}
+use Rattle.table_edits.specs.plan_growth.Growing.{MayGive}
+use Rattle.table_edits.specs.plan_growth.Streams.{IsOwnStream, key_of, marks_streams, MayTake}
+use Rattle.table_edits.specs.plan_growth.Trees.{TreeFollows}
+use Rattle.table_edits.specs.plan_edits.Edits.{mirror_key}
+use Rattle.table_edits.specs.plan_edits.Moves.{EditsDraft}
 use Rattle.bitmap_edits.specs.Bitmaps.{IsClusterBitmap, PutsOwnersKept, PutsRunsIn}
 
 -- A draft of a volume, of which the bitmap of clusters and the mirror of the file table are these, over whole bodies in order.

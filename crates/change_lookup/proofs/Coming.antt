@@ -5,19 +5,19 @@ use Rattle.std.specs.List.{list_any}
 use Rattle.host_base.specs.Answers.{◌>>=◌, needs, GivesOrFails}
 use Rattle.host_base.specs.declared.file_ref.FileRef.{FileRef}
 use Rattle.host_base.proofs.Known.{one, both, always}
-use Rattle.file_tree.specs.declared.link.Link.{Link}
-use Rattle.file_tree.specs.declared.node.Node.{Node}
-use Rattle.file_tree.specs.declared.tree.Tree.{Tree}
-use Rattle.file_tree.specs.Trees.{is_directory_kind, look_up, without_bytes}
-use Rattle.file_tree.specs.Walks.{is_bad_part, has_bad_part}
-use Rattle.tree_model.specs.declared.script.Op.{Op}
-use Rattle.tree_model.specs.declared.script.Op.TheVariants as op
-use Rattle.tree_model.specs.declared.reply.Reply.{Reply}
-use Rattle.tree_model.specs.declared.reply.Reply.TheVariants as reply
-use Rattle.tree_model.specs.Needs.{changes_file}
-use Rattle.tree_model.specs.Refusals.{first_of, where_so, from_there, is_in_system, fixed_names, has_same_name, change_rows, create_rows, is_bad_new_path, parent_path, new_name, is_dots}
-use Rattle.tree_model.specs.Effects.{numbers_to_take, least_ref}
-use Rattle.tree_model.specs.Walks.{reached, reached_directory, bad_name}
+use Rattle.tree_lookup.specs.file_tree.declared.link.Link.{Link}
+use Rattle.tree_lookup.specs.file_tree.declared.node.Node.{Node}
+use Rattle.tree_lookup.specs.file_tree.declared.tree.Tree.{Tree}
+use Rattle.tree_lookup.specs.file_tree.Trees.{is_directory_kind, look_up, without_bytes}
+use Rattle.tree_lookup.specs.file_tree.Walks.{is_bad_part, has_bad_part}
+use Rattle.tree_lookup.specs.tree_model.declared.script.Op.{Op}
+use Rattle.tree_lookup.specs.tree_model.declared.script.Op.TheVariants as op
+use Rattle.tree_lookup.specs.tree_model.declared.reply.Reply.{Reply}
+use Rattle.tree_lookup.specs.tree_model.declared.reply.Reply.TheVariants as reply
+use Rattle.tree_lookup.specs.tree_model.Needs.{changes_file}
+use Rattle.tree_lookup.specs.tree_model.Refusals.{first_of, where_so, from_there, is_in_system, fixed_names, has_same_name, change_rows, create_rows, is_bad_new_path, parent_path, new_name, is_dots}
+use Rattle.tree_lookup.specs.tree_model.Effects.{numbers_to_take, least_ref}
+use Rattle.tree_lookup.specs.tree_model.Walks.{reached, reached_directory, bad_name}
 use Rattle.tree_lookup.specs.declared.fault.LookupFault.{LookupFault}
 use Rattle.tree_lookup.specs.Asked.{lookup_cause, AnswersOrFails}
 use Rattle.tree_lookup.specs.Answered.{bare_result}

@@ -4,8 +4,8 @@ use Rattle.std.specs.Prelude.{max, map, ◌==◌, nat_lt, if◌then◌else◌}
 use Rattle.std.specs.List.{range_with_len, cons_option}
 use Rattle.std.proofs.lemmas.Bool.Decides.{nat_tests}
 use Rattle.host_base.specs.declared.file_ref.FileRef.{FileRef}
-use Rattle.file_tree.specs.declared.tree.Tree.{Tree}
-use Rattle.tree_model.specs.Effects.{new_numbers, numbers_to_take, least_ref, lesser_ref}
+use Rattle.tree_lookup.specs.file_tree.declared.tree.Tree.{Tree}
+use Rattle.tree_lookup.specs.tree_model.Effects.{new_numbers, numbers_to_take, least_ref, lesser_ref}
 use Rattle.change_lookup.specs.Counts.{counts_of}
 
 abbrev numbered : ℕ → FileRef

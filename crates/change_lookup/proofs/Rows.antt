@@ -4,18 +4,18 @@ use Rattle.std.specs.Prelude.{◌==◌, nat_lt, is_some, if◌then◌else◌}
 use Rattle.std.specs.Option.{option_or}
 use Rattle.std.proofs.lemmas.Bool.Decides.{nat_tests}
 use Rattle.host_base.specs.declared.file_ref.FileRef.{FileRef}
-use Rattle.file_tree.specs.declared.link.Link.{Link}
-use Rattle.file_tree.specs.declared.node.Node.{Node}
-use Rattle.file_tree.specs.declared.tree.Tree.{Tree}
-use Rattle.file_tree.specs.Names.{same_units}
-use Rattle.file_tree.specs.Trees.{is_directory_kind, look_up, same_links, first_of_two, first_in_order, without_bytes}
-use Rattle.tree_model.specs.declared.script.Op.{Op}
-use Rattle.tree_model.specs.declared.script.Op.TheVariants as op
-use Rattle.tree_model.specs.declared.reply.Reply.{Reply}
-use Rattle.tree_model.specs.declared.reply.Reply.TheVariants as reply
-use Rattle.tree_model.specs.Needs.{needed, reserve, changes_file}
-use Rattle.tree_model.specs.Refusals.{first_of, where_so, is_in_system, is_system_node, fixed_bytes, fixed_names, has_same_name, table_full, no_space, too_long, change_rows, create_rows}
-use Rattle.tree_model.specs.Effects.{least_ref}
+use Rattle.tree_lookup.specs.file_tree.declared.link.Link.{Link}
+use Rattle.tree_lookup.specs.file_tree.declared.node.Node.{Node}
+use Rattle.tree_lookup.specs.file_tree.declared.tree.Tree.{Tree}
+use Rattle.tree_lookup.specs.file_tree.Names.{same_units}
+use Rattle.tree_lookup.specs.file_tree.Trees.{is_directory_kind, look_up, same_links, first_of_two, first_in_order, without_bytes}
+use Rattle.tree_lookup.specs.tree_model.declared.script.Op.{Op}
+use Rattle.tree_lookup.specs.tree_model.declared.script.Op.TheVariants as op
+use Rattle.tree_lookup.specs.tree_model.declared.reply.Reply.{Reply}
+use Rattle.tree_lookup.specs.tree_model.declared.reply.Reply.TheVariants as reply
+use Rattle.tree_lookup.specs.tree_model.Needs.{needed, reserve, changes_file}
+use Rattle.tree_lookup.specs.tree_model.Refusals.{first_of, where_so, is_in_system, is_system_node, fixed_bytes, fixed_names, has_same_name, table_full, no_space, too_long, change_rows, create_rows}
+use Rattle.tree_lookup.specs.tree_model.Effects.{least_ref}
 use Rattle.change_lookup.specs.Counts.{counts_of}
 use Rattle.change_lookup.proofs.Numbers.{is_spare}
 

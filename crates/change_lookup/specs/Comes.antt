@@ -1,15 +1,15 @@
 -- What an operation that makes, writes or cuts a file comes to on a tree, before it is done.
 use Rattle.std.specs.Prelude.{◌≡◌, ℕ, Bool, true, false, List, [], Option, Some, None, IsOkAnd, IsSomeAnd}
-use Rattle.file_tree.specs.declared.node.Node.{Node}
-use Rattle.file_tree.specs.declared.tree.Tree.{Tree}
-use Rattle.tree_model.specs.declared.script.Op.{Op}
-use Rattle.tree_model.specs.declared.script.Op.TheVariants as op
-use Rattle.tree_model.specs.declared.reply.Reply.{Reply}
-use Rattle.tree_model.specs.Walks.{reached, reached_directory}
-use Rattle.tree_model.specs.Needs.{changes_file}
-use Rattle.tree_model.specs.Refusals.{parent_path, new_name}
-use Rattle.tree_model.specs.Effects.{numbers_to_take, least_ref}
-use Rattle.tree_model.specs.Steps.{step_refusal, is_given_up}
+use Rattle.tree_lookup.specs.file_tree.declared.node.Node.{Node}
+use Rattle.tree_lookup.specs.file_tree.declared.tree.Tree.{Tree}
+use Rattle.tree_lookup.specs.tree_model.declared.script.Op.{Op}
+use Rattle.tree_lookup.specs.tree_model.declared.script.Op.TheVariants as op
+use Rattle.tree_lookup.specs.tree_model.declared.reply.Reply.{Reply}
+use Rattle.tree_lookup.specs.tree_model.Walks.{reached, reached_directory}
+use Rattle.tree_lookup.specs.tree_model.Needs.{changes_file}
+use Rattle.tree_lookup.specs.tree_model.Refusals.{parent_path, new_name}
+use Rattle.tree_lookup.specs.tree_model.Effects.{numbers_to_take, least_ref}
+use Rattle.tree_lookup.specs.tree_model.Steps.{step_refusal, is_given_up}
 use Rattle.tree_lookup.specs.Answered.{bare_result}
 use Rattle.change_lookup.specs.declared.found.Found.{Found}
 use Rattle.change_lookup.specs.declared.found.Found.TheVariants.{Refused, File, Place}

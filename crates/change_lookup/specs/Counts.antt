@@ -2,7 +2,7 @@
 use Rattle.std.specs.Prelude.{ℕ, [], Option, None}
 use Rattle.std.specs.List.{cons_option}
 use Rattle.host_base.specs.declared.file_ref.FileRef.{FileRef}
-use Rattle.file_tree.specs.declared.tree.Tree.{Tree}
+use Rattle.tree_lookup.specs.file_tree.declared.tree.Tree.{Tree}
 
 -- a tree of nothing but its counts: the free clusters, the records, and the least spare number, if there is one
 abbrev pub counts_of : ℕ → ℕ → Option FileRef → Tree

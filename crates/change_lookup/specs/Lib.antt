@@ -1,2 +1,3 @@
+pub use Rattle.tree_lookup.specs as tree_lookup
 pub mod Counts
 pub mod Comes

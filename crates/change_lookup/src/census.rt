@@ -1,13 +1,12 @@
 ghost use Rattle.std.specs.Prelude.{◌≡◌, Ok, true, length, IfSome};
 ghost use Rattle.host_base.specs.Answers.{GivesOrFails};
-ghost use Rattle.file_tree.specs.Trees.{is_directory};
-ghost use Rattle.tree_model.specs.Refusals.{is_in_system};
-ghost use Rattle.tree_model.specs.Effects.{least_ref};
+ghost use Rattle.tree_lookup.specs.file_tree.Trees.{is_directory};
+ghost use Rattle.tree_lookup.specs.tree_model.Refusals.{is_in_system};
+ghost use Rattle.tree_lookup.specs.tree_model.Effects.{least_ref};
 ghost use Rattle.tree_lookup.specs.Asked.{lookup_cause, AsksTree};
 
 use std::alloc::Global;
-use tree_lookup::{Lookup, LookupFault};
-use tree_model::FileRef;
+use tree_lookup::{FileRef, Lookup, LookupFault};
 
 /// A tree that is asked, beside its nodes and names, for what a change of it needs. Each call that
 /// may fail does so as those of [`Lookup`] do, and names its cost.

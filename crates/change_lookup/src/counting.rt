@@ -1,13 +1,12 @@
 //! What the rows of a change ask of a tree beside its nodes and names.
 ghost use Rattle.std.specs.Prelude.{◌≡◌, ◌++◌, [], Some, max, IfOk, OnOk};
 ghost use Rattle.std.specs.List.{cons_option};
-ghost use Rattle.file_tree.specs.Walks.{first_user_record};
-ghost use Rattle.tree_model.specs.Effects.{numbers_to_take, least_ref};
+ghost use Rattle.tree_lookup.specs.file_tree.Walks.{first_user_record};
+ghost use Rattle.tree_lookup.specs.tree_model.Effects.{numbers_to_take, least_ref};
 ghost use Rattle.change_lookup.specs.Counts.{counts_of};
 
-use file_tree::{FIRST_USER_RECORD, FileRefList, LinkList, NodeList};
 use std::alloc::{AllocError, Global};
-use tree_model::{FileRef, Tree};
+use tree_lookup::{FIRST_USER_RECORD, FileRef, FileRefList, LinkList, NodeList, Tree};
 
 fn push_some(list: &mut FileRefList, number: Option<FileRef>) -> Result<(), AllocError>
     ensures { OnOk result (list.new ≡ list.old ++ cons_option number []) }

@@ -1,9 +1,9 @@
 //! The file that a path names, to be written or cut.
 ghost use Rattle.std.specs.Prelude.{◌≡◌, ◌∷◌, [], None, IfOk, IfSome};
-ghost use Rattle.tree_model.specs.Needs.{changes_file};
-ghost use Rattle.tree_model.specs.Refusals.{first_of, from_there, change_rows};
-ghost use Rattle.tree_model.specs.Steps.{IsWithinBounds};
-ghost use Rattle.tree_model.specs.Walks.{reached, bad_name};
+ghost use Rattle.tree_lookup.specs.tree_model.Needs.{changes_file};
+ghost use Rattle.tree_lookup.specs.tree_model.Refusals.{first_of, from_there, change_rows};
+ghost use Rattle.tree_lookup.specs.tree_model.Steps.{IsWithinBounds};
+ghost use Rattle.tree_lookup.specs.tree_model.Walks.{reached, bad_name};
 ghost use Rattle.tree_lookup.specs.Asked.{AnswersOrFails, AsksTree};
 ghost use Rattle.change_lookup.specs.Comes.{FindsFile, FindsBy, KeepsOn};
 ghost use Rattle.change_lookup.specs.declared.found.Found.TheVariants.{File};
@@ -12,8 +12,9 @@ use crate::census::Census;
 use crate::counting::counts_of;
 use crate::found::Found;
 use std::alloc::Global;
-use tree_lookup::{LookupFault, has_bad_part, reached};
-use tree_model::{Node, Op, Reply, Units, change_refusal, changes_file};
+use tree_lookup::{
+    LookupFault, Node, Op, Reply, Units, change_refusal, changes_file, has_bad_part, reached,
+};
 
 // What a change of this node comes to, behind the walk.
 fn changed_there<C: Census>(

@@ -1,6 +1,6 @@
 //! What an operation that makes, writes or cuts a file comes to.
 ghost use Rattle.std.specs.Prelude.{◌≡◌, None, true, IfOk, IfSome};
-ghost use Rattle.tree_model.specs.Steps.{IsWithinBounds};
+ghost use Rattle.tree_lookup.specs.tree_model.Steps.{IsWithinBounds};
 ghost use Rattle.tree_lookup.specs.Asked.{AnswersOrFails, AsksTree};
 ghost use Rattle.change_lookup.specs.Comes.{is_file_change, ComesTo, KeepsOn};
 
@@ -9,8 +9,7 @@ use crate::files::file_found;
 use crate::found::Found;
 use crate::places::place_found;
 use std::alloc::Global;
-use tree_lookup::LookupFault;
-use tree_model::Op;
+use tree_lookup::{LookupFault, Op};
 
 /// What an operation that makes, writes or cuts a file comes to on a tree without a journal: the
 /// first row that refuses it, exactly where there is one; else the file that is written or cut, or

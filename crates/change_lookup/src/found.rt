@@ -1,4 +1,4 @@
-use tree_model::{FileRef, Name, Node, Reply};
+use tree_lookup::{FileRef, Name, Node, Reply};
 
 /// What an operation that makes, writes or cuts a file comes to, before it is done.
 #[derive(Debug, Drop)]

@@ -1,15 +1,15 @@
 //! The place where a new file comes.
 ghost use Rattle.std.specs.Prelude.{◌≡◌, ℕ, ◌+◌, List, ◌∷◌, [], Ok, None, true, false, is_some, IfOk, IfErr, IfSome};
-ghost use Rattle.file_tree.specs.declared.node.Node.{Node as the_node};
+ghost use Rattle.tree_lookup.specs.file_tree.declared.node.Node.{Node as the_node};
 ghost use Rattle.host_base.specs.Answers.{GivesOrFails};
-ghost use Rattle.utf16_name.specs.Names.{name_fault};
-ghost use Rattle.file_tree.specs.Trees.{is_directory, is_directory_kind};
-ghost use Rattle.tree_model.specs.declared.reply.Reply.TheVariants as reply;
-ghost use Rattle.tree_model.specs.declared.script.Op.TheVariants.{Create};
-ghost use Rattle.tree_model.specs.Needs.{needed, reserve};
-ghost use Rattle.tree_model.specs.Refusals.{first_of, where_so, from_there, is_system_node, fixed_names, has_same_name, table_full, no_space, create_rows, is_bad_new_path, parent_path, new_name};
-ghost use Rattle.tree_model.specs.Steps.{is_given_up};
-ghost use Rattle.tree_model.specs.Walks.{reached_directory};
+ghost use Rattle.tree_lookup.specs.utf16_name.Names.{name_fault};
+ghost use Rattle.tree_lookup.specs.file_tree.Trees.{is_directory, is_directory_kind};
+ghost use Rattle.tree_lookup.specs.tree_model.declared.reply.Reply.TheVariants as reply;
+ghost use Rattle.tree_lookup.specs.tree_model.declared.script.Op.TheVariants.{Create};
+ghost use Rattle.tree_lookup.specs.tree_model.Needs.{needed, reserve};
+ghost use Rattle.tree_lookup.specs.tree_model.Refusals.{first_of, where_so, from_there, is_system_node, fixed_names, has_same_name, table_full, no_space, create_rows, is_bad_new_path, parent_path, new_name};
+ghost use Rattle.tree_lookup.specs.tree_model.Steps.{is_given_up};
+ghost use Rattle.tree_lookup.specs.tree_model.Walks.{reached_directory};
 ghost use Rattle.tree_lookup.specs.Asked.{lookup_cause, AnswersOrFails, AsksTree};
 ghost use Rattle.change_lookup.specs.Comes.{FindsPlace, IsPlaced, FindsBy, KeepsOn};
 ghost use Rattle.change_lookup.specs.Counts.{counts_of};
@@ -18,12 +18,11 @@ use crate::census::Census;
 use crate::counting::{counts_of, number_to_take};
 use crate::found::Found;
 use std::alloc::{AllocError, Global};
-use tree_lookup::{LookupFault, reached_directory};
-use tree_model::{
-    FileRef, Link, Name, Node, Reply, Tree, Units, fixed_names, is_bad_new_path, needed_to_create,
-    new_name, no_space, parent_path, table_full,
+use tree_lookup::{
+    FileRef, Link, LookupFault, Name, NameFault, Node, Reply, Tree, Units, fixed_names,
+    is_bad_new_path, needed_to_create, new_name, no_space, parent_path, reached_directory,
+    table_full,
 };
-use utf16_name::NameFault;
 
 // A lawful name, as one.
 fn name_of(alloc: Global, name: &[u16]) -> Result<Name, LookupFault>

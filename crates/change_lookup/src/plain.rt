@@ -1,8 +1,7 @@
 //! A tree in memory, of which each list is gone through from the front.
 use crate::census::Census;
 use std::alloc::Global;
-use tree_lookup::{LookupFault, Plain};
-use tree_model::{FileRef, is_in_system, least_ref};
+use tree_lookup::{FileRef, LookupFault, Plain, is_in_system, least_ref};
 
 impl Census for Plain<'_> {
     fn room(&self) -> u64 {

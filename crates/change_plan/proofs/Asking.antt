@@ -3,17 +3,17 @@ use Rattle.std.proofs.Common.{◌≡◌, ℕ, ◌+◌, ◌<◌, ◌≤◌, ◌^�
 use Rattle.std.specs.Prelude.{IfSome, ◌↔◌}
 use Rattle.disk_model.specs.Content.{Content}
 use Rattle.record_model.specs.Records.{Record}
-use Rattle.record_streams.specs.Fitting.{FitsButRoom}
+use Rattle.found_files.specs.record_streams.Fitting.{FitsButRoom}
 use Rattle.file_tree.specs.declared.node.Node.{Node}
 use Rattle.state_model.specs.declared.geometry.Geometry.{Geometry}
 use Rattle.volume_model.specs.Volumes.{Volume}
 use Rattle.tree_model.specs.declared.script.Op.{Op}
 use Rattle.tree_model.specs.Steps.{IsWithinBounds}
-use Rattle.made_data.specs.Made.{made_record, has_data, record_with_data}
-use Rattle.file_puts.specs.declared.streams.VolumeStreams.{VolumeStreams}
-use Rattle.file_writes.specs.Writing.{MayWrite}
-use Rattle.file_changes.specs.Calls.{IsAsked}
-use Rattle.written_values.proofs.Owning.{is_owned}
+use Rattle.found_files.specs.made_data.Made.{made_record, has_data, record_with_data}
+use Rattle.found_files.specs.file_puts.declared.streams.VolumeStreams.{VolumeStreams}
+use Rattle.found_files.specs.file_writes.Writing.{MayWrite}
+use Rattle.found_files.specs.file_changes.Calls.{IsAsked}
+use Rattle.found_files.proofs.written_values.Owning.{is_owned}
 use Rattle.found_files.specs.Found.{IsFoundFile, FoundMayWrite}
 use Rattle.change_plan.specs.declared.fault.PlanFault.TheVariants.{Unknown}
 use Rattle.change_plan.specs.States.{HasFewClusters}

@@ -20,20 +20,20 @@ use Rattle.plan_draft.specs.declared.touched.Touched.{Touched}
 use Rattle.plan_draft.specs.Drafts.{drafted}
 use Rattle.plan_draft.specs.Touching.{IsOldOf, rises}
 use Rattle.plan_draft.specs.Finishing.{change_keys, WasOld}
-use Rattle.made_data.specs.Made.{record_with_data}
-use Rattle.file_puts.specs.declared.streams.VolumeStreams.{VolumeStreams}
-use Rattle.file_writes.specs.declared.fault.WriteFault.{WriteFault}
-use Rattle.file_writes.specs.declared.fault.WriteFault.TheVariants as write
-use Rattle.file_writes.specs.Faults.{write_cause}
-use Rattle.file_changes.specs.Calls.{IsAsked, StepsTo, StepsFrom}
-use Rattle.file_changes.specs.Written.{IsWritten, WrittenFrom}
-use Rattle.step_model.specs.Steps.{Answer, Done, answer_of, Step}
-use Rattle.change_steps.specs.Changes.{change_reply, ChangesAreSteps}
-use Rattle.change_steps.specs.Found.{HasChange}
+use Rattle.found_files.specs.made_data.Made.{record_with_data}
+use Rattle.found_files.specs.file_puts.declared.streams.VolumeStreams.{VolumeStreams}
+use Rattle.found_files.specs.file_writes.declared.fault.WriteFault.{WriteFault}
+use Rattle.found_files.specs.file_writes.declared.fault.WriteFault.TheVariants as write
+use Rattle.found_files.specs.file_writes.Faults.{write_cause}
+use Rattle.found_files.specs.file_changes.Calls.{IsAsked, StepsTo, StepsFrom}
+use Rattle.found_files.specs.file_changes.Written.{IsWritten, WrittenFrom}
+use Rattle.found_files.specs.step_model.Steps.{Answer, Done, answer_of, Step}
+use Rattle.found_files.specs.change_steps.Changes.{change_reply, ChangesAreSteps}
+use Rattle.found_files.specs.change_steps.Found.{HasChange}
 use Rattle.state_model.specs.declared.stream.Extents.{Extents}
 use Rattle.stream_laws.proofs.Rewriting.{volume_parts}
-use Rattle.draft_records.specs.Records.{file_of}
-use Rattle.written_clusters.proofs.Chaining.{none_drafted}
+use Rattle.found_files.specs.draft_records.Records.{file_of}
+use Rattle.found_files.proofs.written_clusters.Chaining.{none_drafted}
 use Rattle.change_plan.specs.declared.plan.ChangePlan.{ChangePlan}
 use Rattle.change_plan.specs.declared.fault.PlanFault.{PlanFault}
 use Rattle.change_plan.specs.declared.fault.PlanFault.TheVariants.{Fault, Memory, Unknown}

@@ -9,11 +9,11 @@ use Rattle.file_tree.specs.declared.node.Node.{Node}
 use Rattle.file_tree.specs.declared.tree.Tree.{Tree}
 use Rattle.state_model.specs.declared.geometry.Geometry.{Geometry}
 use Rattle.volume_model.specs.Volumes.{Volume, upper_of}
-use Rattle.volume_state.specs.Trees.{tree_of}
-use Rattle.volume_map.specs.declared.map.VolumeMap.{VolumeMap}
-use Rattle.volume_map.specs.Maps.{IsMapOf, volume_in}
+use Rattle.found_files.specs.volume_state.Trees.{tree_of}
+use Rattle.found_files.specs.volume_map.declared.map.VolumeMap.{VolumeMap}
+use Rattle.found_files.specs.volume_map.Maps.{IsMapOf, volume_in}
 use Rattle.stream_laws.proofs.Rewriting.{volume_parts}
-use Rattle.plan_owners.specs.States.{Stands}
+use Rattle.found_files.specs.plan_owners.States.{Stands}
 use Rattle.tree_model.specs.declared.script.Op.{Op}
 use Rattle.tree_model.specs.declared.script.Op.TheVariants as op
 use Rattle.tree_model.specs.declared.reply.Reply.{Reply}
@@ -28,17 +28,17 @@ use Rattle.tree_lookup.specs.Answered.{bare_result}
 use Rattle.change_lookup.specs.declared.found.Found.{Found}
 use Rattle.change_lookup.specs.declared.found.Found.TheVariants.{Refused, File, Place}
 use Rattle.change_lookup.specs.Comes.{ComesTo}
-use Rattle.volume_lookup.specs.Known.{known_tree}
-use Rattle.volume_lookup.proofs.Asking.{known_where}
-use Rattle.plan_changes.specs.Files.{IsChangeable}
-use Rattle.file_puts.specs.declared.streams.VolumeStreams.{VolumeStreams}
-use Rattle.file_puts.specs.Written.{AreStreamsOf}
-use Rattle.file_changes.specs.Calls.{IsAsked}
-use Rattle.step_model.specs.Steps.{Step}
-use Rattle.change_steps.specs.Found.{HasChange, Finds, IsFileFound, FoundIsThere}
-use Rattle.change_steps.specs.Changes.{change_reply, ChangesAreSteps}
-use Rattle.change_steps.proofs.Rows.{place_by}
-use Rattle.written_clusters.proofs.Taking.{length-cluster_bits}
+use Rattle.volume_census.specs.volume_lookup.Known.{known_tree}
+use Rattle.volume_census.proofs.volume_lookup.Asking.{known_where}
+use Rattle.found_files.specs.plan_changes.Files.{IsChangeable}
+use Rattle.found_files.specs.file_puts.declared.streams.VolumeStreams.{VolumeStreams}
+use Rattle.found_files.specs.file_puts.Written.{AreStreamsOf}
+use Rattle.found_files.specs.file_changes.Calls.{IsAsked}
+use Rattle.found_files.specs.step_model.Steps.{Step}
+use Rattle.found_files.specs.change_steps.Found.{HasChange, Finds, IsFileFound, FoundIsThere}
+use Rattle.found_files.specs.change_steps.Changes.{change_reply, ChangesAreSteps}
+use Rattle.found_files.proofs.change_steps.Rows.{place_by}
+use Rattle.found_files.proofs.written_clusters.Taking.{length-cluster_bits}
 use Rattle.change_plan.specs.declared.plan.ChangePlan.{ChangePlan}
 use Rattle.change_plan.specs.declared.fault.PlanFault.{PlanFault}
 use Rattle.change_plan.specs.declared.fault.PlanFault.TheVariants.{Fault, Memory, Unknown}

@@ -15,11 +15,11 @@ use Rattle.state_model.specs.Files.{has_type}
 use Rattle.state_model.specs.Loads.{has_all_pairs, used_record, record_count, most_records, no_extents, table_extents, extents_in, table_of}
 use Rattle.volume_model.specs.Volumes.{Volume}
 use Rattle.stream_laws.proofs.Rewriting.{volume_parts}
-use Rattle.plan_owners.specs.States.{Stands}
-use Rattle.plan_model.proofs.OneRecord.{own_record}
-use Rattle.plan_changes.specs.Files.{IsChangeable}
-use Rattle.written_values.proofs.Owning.{is_owned}
-use Rattle.draft_records.specs.Records.{ReadsTheTable}
+use Rattle.found_files.specs.plan_owners.States.{Stands}
+use Rattle.found_files.proofs.plan_model.OneRecord.{own_record}
+use Rattle.found_files.specs.plan_changes.Files.{IsChangeable}
+use Rattle.found_files.proofs.written_values.Owning.{is_owned}
+use Rattle.found_files.specs.draft_records.Records.{ReadsTheTable}
 use Rattle.change_plan.specs.Laws.{FilesAreRead}
 
 -- ---- a file table has not too many records

@@ -10,19 +10,19 @@ use Rattle.tree_model.specs.declared.reply.Reply.{Reply}
 use Rattle.tree_model.specs.declared.reply.Reply.TheVariants as reply
 use Rattle.block_view.specs.Changes.{content_after}
 use Rattle.change_lookup.specs.declared.found.Found.{Found}
-use Rattle.volume_map.specs.declared.map.VolumeMap.{VolumeMap}
-use Rattle.volume_map.specs.Maps.{IsMapOf, volume_in}
+use Rattle.found_files.specs.volume_map.declared.map.VolumeMap.{VolumeMap}
+use Rattle.found_files.specs.volume_map.Maps.{IsMapOf, volume_in}
 use Rattle.plan_draft.specs.declared.touched.Touched.{Touched}
 use Rattle.plan_draft.specs.Drafts.{drafted}
 use Rattle.plan_draft.specs.Touching.{keys_of, rises, IsWhole, IsOldOf}
 use Rattle.plan_draft.specs.Finishing.{changes_of}
-use Rattle.file_puts.specs.declared.streams.VolumeStreams.{VolumeStreams}
-use Rattle.file_puts.specs.Written.{AreStreamsOf}
-use Rattle.file_writes.specs.declared.fault.WriteFault.{WriteFault}
-use Rattle.file_writes.specs.declared.fault.WriteFault.TheVariants as write
-use Rattle.file_changes.specs.Calls.{IsAsked}
-use Rattle.change_steps.specs.Changes.{change_reply}
-use Rattle.change_steps.specs.Found.{HasChange, Finds}
+use Rattle.found_files.specs.file_puts.declared.streams.VolumeStreams.{VolumeStreams}
+use Rattle.found_files.specs.file_puts.Written.{AreStreamsOf}
+use Rattle.found_files.specs.file_writes.declared.fault.WriteFault.{WriteFault}
+use Rattle.found_files.specs.file_writes.declared.fault.WriteFault.TheVariants as write
+use Rattle.found_files.specs.file_changes.Calls.{IsAsked}
+use Rattle.found_files.specs.change_steps.Changes.{change_reply}
+use Rattle.found_files.specs.change_steps.Found.{HasChange, Finds}
 use Rattle.change_plan.specs.declared.plan.ChangePlan.{ChangePlan}
 use Rattle.change_plan.specs.declared.fault.PlanFault.{PlanFault}
 use Rattle.change_plan.specs.declared.fault.PlanFault.TheVariants.{Fault, Memory, Unknown}

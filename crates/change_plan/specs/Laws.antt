@@ -5,9 +5,9 @@ use Rattle.record_model.specs.Records.{Record}
 use Rattle.file_tree.specs.declared.node.Node.{Node}
 use Rattle.state_model.specs.declared.geometry.Geometry.{Geometry}
 use Rattle.volume_model.specs.Volumes.{Volume}
-use Rattle.plan_owners.specs.States.{Stands}
-use Rattle.plan_changes.specs.Files.{IsChangeable}
-use Rattle.draft_records.specs.Records.{file_of}
+use Rattle.found_files.specs.plan_owners.States.{Stands}
+use Rattle.found_files.specs.plan_changes.Files.{IsChangeable}
+use Rattle.found_files.specs.draft_records.Records.{file_of}
 
 -- In a state a file that can be changed is read of the file table as the record that it has, and its number is within the bounds of one.
 abbrev pub FilesAreRead : Type 0

@@ -13,10 +13,10 @@ use Rattle.block_view.specs.Changes.{Fits, content_after}
 use Rattle.plan_draft.specs.declared.touched.Touched.{Touched}
 use Rattle.plan_draft.specs.Touching.{keys_of, rises, IsWhole, IsOldOf}
 use Rattle.plan_draft.specs.Finishing.{changes_of, change_keys, WasOld}
-use Rattle.made_data.specs.Made.{record_with_data}
-use Rattle.file_puts.specs.declared.streams.VolumeStreams.{VolumeStreams}
-use Rattle.file_changes.specs.Written.{IsWritten}
-use Rattle.step_model.specs.Steps.{Answer, Done, answer_of, Step}
+use Rattle.found_files.specs.made_data.Made.{record_with_data}
+use Rattle.found_files.specs.file_puts.declared.streams.VolumeStreams.{VolumeStreams}
+use Rattle.found_files.specs.file_changes.Written.{IsWritten}
+use Rattle.found_files.specs.step_model.Steps.{Answer, Done, answer_of, Step}
 use Rattle.change_plan.specs.declared.plan.ChangePlan.{ChangePlan}
 use Rattle.change_plan.specs.declared.fault.PlanFault.{PlanFault}
 use Rattle.change_plan.specs.declared.fault.PlanFault.TheVariants.{Fault, Memory, Unknown}

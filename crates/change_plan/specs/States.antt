@@ -4,12 +4,12 @@ use Rattle.disk_model.specs.Content.{Content}
 use Rattle.record_model.specs.Pairs.{cluster_limit}
 use Rattle.state_model.specs.declared.geometry.Geometry.{Geometry}
 use Rattle.volume_model.specs.Volumes.{Volume, upper_of}
-use Rattle.volume_state.specs.Trees.{tree_of}
-use Rattle.plan_owners.specs.States.{Stands}
+use Rattle.found_files.specs.volume_state.Trees.{tree_of}
+use Rattle.found_files.specs.plan_owners.States.{Stands}
 use Rattle.tree_model.specs.declared.script.Op.{Op}
 use Rattle.tree_model.specs.declared.script.Op.TheVariants as op
-use Rattle.file_puts.specs.declared.streams.VolumeStreams.{VolumeStreams}
-use Rattle.file_puts.specs.Written.{AreStreamsOf}
+use Rattle.found_files.specs.file_puts.declared.streams.VolumeStreams.{VolumeStreams}
+use Rattle.found_files.specs.file_puts.Written.{AreStreamsOf}
 
 -- an operation that writes, fills or cuts a file
 abbrev pub is_data_change : Op → Bool

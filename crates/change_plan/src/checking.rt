@@ -1,16 +1,13 @@
 //! Whether a file may be given to the call that writes or cuts it.
 ghost use Rattle.std.specs.Prelude.{◌≡◌, ◌<◌, ◌^◌, ◌↔◌, true, IfOk, length};
-ghost use Rattle.record_streams.specs.Fitting.{FitsButRoom};
-ghost use Rattle.file_writes.specs.Writing.{MayWrite};
-ghost use Rattle.made_data.specs.Made.{made_record, record_with_data};
+ghost use Rattle.found_files.specs.record_streams.Fitting.{FitsButRoom};
+ghost use Rattle.found_files.specs.file_writes.Writing.{MayWrite};
+ghost use Rattle.found_files.specs.made_data.Made.{made_record, record_with_data};
 ghost use Rattle.change_plan.specs.Checking.{MayChange};
 
-use file_puts::VolumeStreams;
-use file_record::FileRec;
 use file_tree::Node;
-use found_files::{found_may_write, may_write};
+use found_files::{FileRec, VolumeStreams, found_may_write, has_data, make_data, may_write};
 use host_base::Memory;
-use made_data::{has_data, make_data};
 use std::alloc::{AllocError, Global};
 use tree_model::Op;
 

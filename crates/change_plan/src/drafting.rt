@@ -1,9 +1,9 @@
 //! The plan of an operation that was found to change a file.
 ghost use Rattle.std.specs.Prelude.{◌≡◌, ◌<◌, ◌^◌, true, [], IfOk, IfSome};
 ghost use Rattle.block_view.specs.Views.{AsksView};
-ghost use Rattle.record_streams.specs.Fitting.{FitsButRoom};
+ghost use Rattle.found_files.specs.record_streams.Fitting.{FitsButRoom};
 ghost use Rattle.tree_model.specs.Steps.{IsWithinBounds};
-ghost use Rattle.change_steps.specs.Changes.{change_reply};
+ghost use Rattle.found_files.specs.change_steps.Changes.{change_reply};
 ghost use Rattle.change_plan.specs.Faults.{plan_cause};
 ghost use Rattle.change_plan.specs.States.{is_data_change};
 ghost use Rattle.change_plan.specs.Plans.{IsSound};
@@ -14,21 +14,17 @@ use crate::fault::PlanFault;
 use crate::laws::files_are_read;
 use crate::plan::ChangePlan;
 use block_view::View;
-use change_steps::changes_are_steps;
 use disk_model::Body;
-use draft_records::file;
-use file_puts::VolumeStreams;
-use file_record::FileRec;
 use file_tree::Node;
-use file_writes::WriteFault;
-use found_files::found_may_write;
+use found_files::{
+    FileRec, VolumeMap, VolumeStreams, WriteFault, change_any_file, changes_are_steps, file,
+    found_may_write,
+};
 use plan_draft::Draft;
 use plan_space::{FreeBits, Taken};
 use state_model::ClusterSize;
 use std::alloc::{AllocError, Global};
 use tree_model::{Op, Reply};
-use volume_map::VolumeMap;
-use written_made::change_any_file;
 
 // The sectors of a cluster.
 const PER_CLUSTER: u64 = 8;

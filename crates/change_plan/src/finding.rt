@@ -4,8 +4,8 @@ ghost use Rattle.block_view.specs.Views.{AsksView};
 ghost use Rattle.tree_model.specs.Steps.{IsWithinBounds};
 ghost use Rattle.tree_lookup.specs.Asked.{lookup_cause, AnswersOrFails};
 ghost use Rattle.change_lookup.specs.Comes.{ComesTo, KeepsOn};
-ghost use Rattle.volume_map.specs.Maps.{IsMapOf, volume_in};
-ghost use Rattle.volume_lookup.specs.Known.{known_tree};
+ghost use Rattle.found_files.specs.volume_map.Maps.{IsMapOf, volume_in};
+ghost use Rattle.volume_census.specs.volume_lookup.Known.{known_tree};
 ghost use Rattle.change_plan.specs.States.{is_data_change};
 
 use block_view::View;
@@ -14,8 +14,7 @@ use std::alloc::Global;
 use tree_lookup::LookupFault;
 use tree_model::Op;
 use upcase_order::Upcase;
-use volume_census::{LentView, VolumeCensus};
-use volume_tree::NamedVolume;
+use volume_census::{LentView, NamedVolume, VolumeCensus};
 
 /// What an operation that writes, fills or cuts a file comes to on the tree of this volume, whose
 /// table of upper-case units this is, as [`change_found`] says.

@@ -1,7 +1,7 @@
 //! The laws of these definitions.
 ghost use Rattle.change_plan.specs.Laws.{FilesAreRead};
 
-use draft_records::reads_the_table;
+use found_files::reads_the_table;
 
 /// Law: in a state the record of a file that can be changed is read of the file table as it stands,
 /// and its number is within the bounds of one.

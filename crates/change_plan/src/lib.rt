@@ -16,10 +16,10 @@ mod planning;
 
 pub use block_view::View;
 pub use fault::PlanFault;
-pub use file_puts::VolumeStreams;
+pub use found_files::{VolumeStreams, data_extents};
 pub use laws::files_are_read;
 pub use plan::ChangePlan;
 pub use planning::plan_change;
 pub use tree_model::{Op, Reply};
 pub use upcase_order::Upcase;
-pub use volume_tree::{NamedVolume, Names};
+pub use volume_census::{LentView, NamedVolume, Names};

@@ -3,8 +3,8 @@ ghost use Rattle.std.specs.Prelude.{◌≡◌, None, true, IfOk, IfSome};
 ghost use Rattle.block_view.specs.Views.{AsksView};
 ghost use Rattle.tree_model.specs.Steps.{IsWithinBounds};
 ghost use Rattle.change_lookup.specs.Comes.{KeepsOn};
-ghost use Rattle.volume_map.specs.Maps.{IsMapOf, volume_in};
-ghost use Rattle.volume_lookup.specs.Known.{known_tree};
+ghost use Rattle.found_files.specs.volume_map.Maps.{IsMapOf, volume_in};
+ghost use Rattle.volume_census.specs.volume_lookup.Known.{known_tree};
 ghost use Rattle.change_plan.specs.Faults.{plan_cause};
 ghost use Rattle.change_plan.specs.States.{is_data_change};
 ghost use Rattle.change_plan.specs.Plans.{IsSound, PlansFrom, KnowsFrom};
@@ -17,13 +17,11 @@ use crate::laws::files_are_read;
 use crate::plan::ChangePlan;
 use block_view::View;
 use change_lookup::Found;
-use change_steps::{changes_are_steps, found_is_there};
-use file_puts::VolumeStreams;
+use found_files::{VolumeMap, VolumeStreams, changes_are_steps, found_is_there};
 use std::alloc::Global;
 use tree_model::Op;
 use upcase_order::Upcase;
-use volume_map::VolumeMap;
-use volume_tree::NamedVolume;
+use volume_census::NamedVolume;
 
 // The plan, by what the operation comes to.
 fn planned<V: View>(

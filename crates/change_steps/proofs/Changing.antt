@@ -5,12 +5,12 @@ use Rattle.record_model.specs.Records.{Record}
 use Rattle.file_tree.specs.declared.node.Node.{Node}
 use Rattle.file_tree.specs.declared.tree.Tree.{Tree}
 use Rattle.file_tree.specs.Trees.{node_at as node_by_number}
-use Rattle.state_model.specs.declared.geometry.Geometry.{Geometry}
-use Rattle.volume_model.specs.Volumes.{Volume, file_in, cluster_bits, upper_of}
-use Rattle.volume_state.specs.Trees.{tree_of}
-use Rattle.tree_laws.specs.Parts.{journal_number}
-use Rattle.plan_owners.specs.States.{Stands}
-use Rattle.plan_model.proofs.Drafting.{per_is}
+use Rattle.file_puts.specs.state_model.declared.geometry.Geometry.{Geometry}
+use Rattle.file_puts.specs.volume_model.Volumes.{Volume, file_in, cluster_bits, upper_of}
+use Rattle.file_puts.specs.volume_state.Trees.{tree_of}
+use Rattle.file_puts.specs.tree_laws.Parts.{journal_number}
+use Rattle.file_puts.specs.plan_owners.States.{Stands}
+use Rattle.file_puts.proofs.plan_model.Drafting.{per_is}
 use Rattle.tree_model.specs.declared.script.Op.{Op}
 use Rattle.tree_model.specs.declared.script.Op.TheVariants as op
 use Rattle.tree_model.specs.declared.reply.Reply.{Reply}
@@ -22,15 +22,15 @@ use Rattle.tree_model.specs.Effects.{numbers_to_take, least_ref}
 use Rattle.tree_model.specs.Steps.{HasStep, step_refusal, LeavesFile, IsChanged, is_given_up}
 use Rattle.change_lookup.specs.declared.found.Found.TheVariants as found
 use Rattle.change_lookup.specs.Comes.{is_file_change}
-use Rattle.step_model.specs.Plans.{Plan, no_plan, change_or_none, IsChangePlan, IsPlan, with_journal, content_rows}
-use Rattle.step_model.specs.Contents.{IsLeft}
-use Rattle.step_model.specs.Steps.{Answer, GivenUp, Refused, answer_of, IsRefused, IsDoneIn, LeavesContent, HasChangedContent, StepBy, HasAnswer, Step}
-use Rattle.step_model.proofs.Stepping.{answers_listed}
-use Rattle.plan_changes.specs.Files.{IsChangeable}
+use Rattle.file_puts.specs.step_model.Plans.{Plan, no_plan, change_or_none, IsChangePlan, IsPlan, with_journal, content_rows}
+use Rattle.file_puts.specs.step_model.Contents.{IsLeft}
+use Rattle.file_puts.specs.step_model.Steps.{Answer, GivenUp, Refused, answer_of, IsRefused, IsDoneIn, LeavesContent, HasChangedContent, StepBy, HasAnswer, Step}
+use Rattle.file_puts.proofs.step_model.Stepping.{answers_listed}
+use Rattle.file_puts.specs.plan_changes.Files.{IsChangeable}
 use Rattle.change_steps.specs.Found.{HasChange, Finds}
-use Rattle.data_plan.specs.Changes.{row_of, growth_of}
-use Rattle.plan_draft.specs.Drafts.{drafted}
-use Rattle.plan_changes.proofs.Showing.{node_shows}
+use Rattle.file_puts.specs.data_plan.Changes.{row_of, growth_of}
+use Rattle.file_puts.specs.plan_draft.Drafts.{drafted}
+use Rattle.file_puts.proofs.plan_changes.Showing.{node_shows}
 use Rattle.change_steps.specs.Changes.{change_reply, IsWritten, DraftsAreWritten, ChangesAreSteps}
 use Rattle.change_steps.proofs.Rows.{refused_by, file_by, no_file, no_place, rows_of_change, change_rows_behind, change_rows_stay}
 use Rattle.change_steps.proofs.Finding.{Reached, reached_by, node_there, no_place_is_file}

@@ -15,13 +15,13 @@ use Rattle.file_tree.specs.declared.node.Node.{Node}
 use Rattle.file_tree.specs.declared.tree.Tree.{Tree}
 use Rattle.file_tree.specs.Trees.{has_number, node_at as node_by_number, is_directory_kind, without_bytes}
 use Rattle.file_tree.specs.Walks.{root}
-use Rattle.state_model.specs.declared.geometry.Geometry.{Geometry}
-use Rattle.state_model.specs.Files.{is_directory_record, record_links, has_type, is_encrypted, is_compressed, is_sparse, why_by}
-use Rattle.state_model.specs.Trees.{is_system, is_nameless}
-use Rattle.volume_model.specs.Volumes.{Volume, files_by_number, count_of, file_in, bytes_or, upper_of}
-use Rattle.volume_model.specs.Nodes.{data_flags, has_sparse_run, sparse_if, why_not, is_unread, is_unchanged, kind_in, node_with, node_by, some_node, node_at}
-use Rattle.volume_state.specs.Trees.{tree_of}
-use Rattle.plan_model.proofs.Stepping.{tree_nodes}
+use Rattle.file_puts.specs.state_model.declared.geometry.Geometry.{Geometry}
+use Rattle.file_puts.specs.state_model.Files.{is_directory_record, record_links, has_type, is_encrypted, is_compressed, is_sparse, why_by}
+use Rattle.file_puts.specs.state_model.Trees.{is_system, is_nameless}
+use Rattle.file_puts.specs.volume_model.Volumes.{Volume, files_by_number, count_of, file_in, bytes_or, upper_of}
+use Rattle.file_puts.specs.volume_model.Nodes.{data_flags, has_sparse_run, sparse_if, why_not, is_unread, is_unchanged, kind_in, node_with, node_by, some_node, node_at}
+use Rattle.file_puts.specs.volume_state.Trees.{tree_of}
+use Rattle.file_puts.proofs.plan_model.Stepping.{tree_nodes}
 use Rattle.tree_model.specs.declared.script.Op.{Op}
 use Rattle.tree_model.specs.declared.script.Op.TheVariants as op
 use Rattle.tree_model.specs.declared.reply.Reply.{Reply}
@@ -30,7 +30,7 @@ use Rattle.tree_model.specs.Walks.{some_or, entered, walk, reached, reached_dire
 use Rattle.tree_model.specs.Needs.{changes_file, needed, reserve}
 use Rattle.tree_model.specs.Refusals.{first_of, where_so, is_system_kind, is_system_node, fixed_bytes, too_long, no_space, change_rows, parent_path, new_name}
 use Rattle.tree_model.specs.Effects.{numbers_to_take, least_ref}
-use Rattle.tree_lookup.specs.Answered.{bare_result}
+use Rattle.change_lookup.specs.tree_lookup.Answered.{bare_result}
 use Rattle.change_lookup.specs.declared.found.Found.TheVariants.{File, Place}
 use Rattle.change_lookup.specs.Comes.{FindsFile, FindsPlace}
 use Rattle.change_steps.specs.Found.{HasChange, Finds, IsFileFound, IsPlaceFound, FoundIsThere}

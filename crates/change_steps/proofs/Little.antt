@@ -11,21 +11,21 @@ use Rattle.record_model.specs.declared.attribute.Attr.{Attr}
 use Rattle.record_model.specs.Constants.{data_type}
 use Rattle.record_model.specs.Pairs.{cluster_limit}
 use Rattle.record_model.specs.Records.{Record}
-use Rattle.record_writer.specs.Edits.{whole_length}
-use Rattle.record_writer.specs.Normal.{normal, normal_form}
-use Rattle.record_streams.specs.Fitting.{IsShort, FitsButRoom}
-use Rattle.record_streams.proofs.Kept.{all_of_stream}
+use Rattle.file_puts.specs.record_writer.Edits.{whole_length}
+use Rattle.file_puts.specs.record_writer.Normal.{normal, normal_form}
+use Rattle.file_puts.specs.record_streams.Fitting.{IsShort, FitsButRoom}
+use Rattle.file_puts.proofs.record_streams.Kept.{all_of_stream}
 use Rattle.file_tree.specs.declared.node.Node.{Node}
 use Rattle.file_tree.specs.Trees.{is_directory_kind, without_bytes}
-use Rattle.state_model.specs.declared.geometry.Geometry.{Geometry}
-use Rattle.state_model.specs.declared.stream.Extents.{Extents}
-use Rattle.state_model.specs.declared.stream.Stream.{Stream}
-use Rattle.state_model.specs.declared.stream.Stream.TheVariants.{Held, Placed}
-use Rattle.state_model.specs.Loads.{total_clusters}
-use Rattle.state_model.specs.Streams.{attribute_runs, is_attribute_of, attributes_of, joined, stream_of}
-use Rattle.volume_model.specs.Volumes.{Volume, file_in, size_or, cluster_bits, upper_of}
-use Rattle.volume_model.specs.Nodes.{valid_or, clusters_or}
-use Rattle.volume_state.specs.Trees.{tree_of}
+use Rattle.file_puts.specs.state_model.declared.geometry.Geometry.{Geometry}
+use Rattle.file_puts.specs.state_model.declared.stream.Extents.{Extents}
+use Rattle.file_puts.specs.state_model.declared.stream.Stream.{Stream}
+use Rattle.file_puts.specs.state_model.declared.stream.Stream.TheVariants.{Held, Placed}
+use Rattle.file_puts.specs.state_model.Loads.{total_clusters}
+use Rattle.file_puts.specs.state_model.Streams.{attribute_runs, is_attribute_of, attributes_of, joined, stream_of}
+use Rattle.file_puts.specs.volume_model.Volumes.{Volume, file_in, size_or, cluster_bits, upper_of}
+use Rattle.file_puts.specs.volume_model.Nodes.{valid_or, clusters_or}
+use Rattle.file_puts.specs.volume_state.Trees.{tree_of}
 use Rattle.tree_model.specs.declared.script.Op.{Op}
 use Rattle.tree_model.specs.declared.script.Op.TheVariants as op
 use Rattle.tree_model.specs.declared.reply.Reply.{Reply}
@@ -35,20 +35,20 @@ use Rattle.tree_model.specs.Refusals.{first_of, where_so, is_system_node, fixed_
 use Rattle.tree_model.specs.Effects.{clusters_after}
 use Rattle.change_lookup.specs.declared.found.Found.TheVariants as found
 use Rattle.change_lookup.specs.Comes.{is_file_change}
-use Rattle.volume_model.specs.Sizes.{fits_volume, keeps_streams}
-use Rattle.plan_owners.specs.States.{Stands}
-use Rattle.plan_owners.proofs.Standing.{streams_at}
-use Rattle.plan_growth.proofs.Placed.{some_attributes, stream_rule}
-use Rattle.plan_growth.proofs.Ruled.{sizes_lawful}
-use Rattle.plan_model.proofs.Drafting.{per_is}
-use Rattle.plan_changes.specs.Files.{IsChangeable}
-use Rattle.plan_changes.proofs.Showing.{node_shows}
-use Rattle.step_model.specs.Placing.{more_of}
-use Rattle.step_model.specs.Used.{is_in_record}
-use Rattle.step_model.specs.Streams.{Comes}
-use Rattle.step_model.proofs.UsedLengths.{value_length}
-use Rattle.data_plan.specs.Changes.{data_in, GrowsLittle, growth_of}
-use Rattle.data_plan.proofs.Cases.{comes_by, cut_stays, placed_comes}
+use Rattle.file_puts.specs.volume_model.Sizes.{fits_volume, keeps_streams}
+use Rattle.file_puts.specs.plan_owners.States.{Stands}
+use Rattle.file_puts.proofs.plan_owners.Standing.{streams_at}
+use Rattle.file_puts.proofs.plan_growth.Placed.{some_attributes, stream_rule}
+use Rattle.file_puts.proofs.plan_growth.Ruled.{sizes_lawful}
+use Rattle.file_puts.proofs.plan_model.Drafting.{per_is}
+use Rattle.file_puts.specs.plan_changes.Files.{IsChangeable}
+use Rattle.file_puts.proofs.plan_changes.Showing.{node_shows}
+use Rattle.file_puts.specs.step_model.Placing.{more_of}
+use Rattle.file_puts.specs.step_model.Used.{is_in_record}
+use Rattle.file_puts.specs.step_model.Streams.{Comes}
+use Rattle.file_puts.proofs.step_model.UsedLengths.{value_length}
+use Rattle.file_puts.specs.data_plan.Changes.{data_in, GrowsLittle, growth_of}
+use Rattle.file_puts.proofs.data_plan.Cases.{comes_by, cut_stays, placed_comes}
 use Rattle.change_steps.specs.Found.{HasChange, Finds}
 use Rattle.change_steps.specs.Ready.{FilesAreReady}
 use Rattle.change_steps.proofs.Rows.{change_rows_there}

@@ -6,11 +6,11 @@ use Rattle.disk_model.specs.Content.{Content}
 use Rattle.record_model.specs.Records.{Record}
 use Rattle.file_tree.specs.declared.node.Node.{Node}
 use Rattle.file_tree.specs.Trees.{node_at as node_by_number}
-use Rattle.index_model.specs.Trees.{levels}
-use Rattle.state_model.specs.declared.geometry.Geometry.{Geometry}
-use Rattle.volume_model.specs.Volumes.{Volume, upper_of}
-use Rattle.volume_state.specs.Trees.{tree_of}
-use Rattle.tree_laws.specs.Parts.{journal_number}
+use Rattle.file_puts.specs.index_model.Trees.{levels}
+use Rattle.file_puts.specs.state_model.declared.geometry.Geometry.{Geometry}
+use Rattle.file_puts.specs.volume_model.Volumes.{Volume, upper_of}
+use Rattle.file_puts.specs.volume_state.Trees.{tree_of}
+use Rattle.file_puts.specs.tree_laws.Parts.{journal_number}
 use Rattle.tree_model.specs.declared.script.Op.TheVariants.{Create}
 use Rattle.tree_model.specs.declared.reply.Reply.{Reply}
 use Rattle.tree_model.specs.declared.reply.Reply.TheVariants as reply
@@ -19,10 +19,10 @@ use Rattle.tree_model.specs.Needs.{needed}
 use Rattle.tree_model.specs.Refusals.{first_of, where_so, is_bad_new_path, parent_path, new_name}
 use Rattle.tree_model.specs.Effects.{numbers_to_take, least_ref, HasCreated}
 use Rattle.change_lookup.specs.declared.found.Found.TheVariants as found
-use Rattle.step_model.specs.Spreads.{Outcome, Flat, Raised, TooDeep}
-use Rattle.step_model.specs.Plans.{Plan, no_plan, made_plan, IsMadePlan, IsPlan, content_rows}
-use Rattle.step_model.specs.Contents.{IsLeft}
-use Rattle.step_model.specs.Steps.{HasIndex, touched_files, Step}
+use Rattle.file_puts.specs.step_model.Spreads.{Outcome, Flat, Raised, TooDeep}
+use Rattle.file_puts.specs.step_model.Plans.{Plan, no_plan, made_plan, IsMadePlan, IsPlan, content_rows}
+use Rattle.file_puts.specs.step_model.Contents.{IsLeft}
+use Rattle.file_puts.specs.step_model.Steps.{HasIndex, touched_files, Step}
 use Rattle.change_steps.specs.Found.{HasChange, Finds}
 use Rattle.change_steps.specs.Makings.{IsMade, MakingsAreSteps}
 use Rattle.change_steps.proofs.Rows.{place_by, rows_of_making, making_behind}

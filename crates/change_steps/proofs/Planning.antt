@@ -8,21 +8,21 @@ use Rattle.disk_model.specs.Content.{Content}
 use Rattle.record_model.specs.Records.{Record}
 use Rattle.file_tree.specs.declared.journal.Journal.{Journal}
 use Rattle.file_tree.specs.declared.node.Node.{Node}
-use Rattle.volume_model.specs.Volumes.{Volume, file_in, table_file, mirror_file, bitmap_file, cluster_bits, upper_of}
-use Rattle.volume_state.specs.Trees.{tree_of}
-use Rattle.space_model.specs.Choosing.{with_runs}
-use Rattle.stream_laws.specs.Sharing.{StreamKey}
-use Rattle.stream_laws.specs.Tables.{table_key}
-use Rattle.tree_laws.specs.Parts.{journal_number}
-use Rattle.plan_model.specs.Edits.{IsOwnedIn}
+use Rattle.file_puts.specs.volume_model.Volumes.{Volume, file_in, table_file, mirror_file, bitmap_file, cluster_bits, upper_of}
+use Rattle.file_puts.specs.volume_state.Trees.{tree_of}
+use Rattle.file_puts.specs.space_model.Choosing.{with_runs}
+use Rattle.file_puts.specs.stream_laws.Sharing.{StreamKey}
+use Rattle.file_puts.specs.stream_laws.Tables.{table_key}
+use Rattle.file_puts.specs.tree_laws.Parts.{journal_number}
+use Rattle.file_puts.specs.plan_model.Edits.{IsOwnedIn}
 use Rattle.tree_model.specs.declared.script.Op.{Op}
 use Rattle.tree_model.specs.declared.reply.Reply.{Reply}
 use Rattle.tree_model.specs.Refusals.{first_of}
-use Rattle.step_model.specs.Placing.{Growth, taken_runs}
-use Rattle.step_model.specs.Streams.{no_change, one_change, data_comes}
-use Rattle.step_model.specs.Plans.{Plan, number_or, journal_comes, with_changed, with_journal, plan_of_change, data_in, change_plan, AtNode}
-use Rattle.step_model.specs.Contents.{same_key, is_touched, touched_streams, IsTouchedRecord, MayDiffer, IsLeft}
-use Rattle.step_model.specs.Steps.{and_journal}
+use Rattle.file_puts.specs.step_model.Placing.{Growth, taken_runs}
+use Rattle.file_puts.specs.step_model.Streams.{no_change, one_change, data_comes}
+use Rattle.file_puts.specs.step_model.Plans.{Plan, number_or, journal_comes, with_changed, with_journal, plan_of_change, data_in, change_plan, AtNode}
+use Rattle.file_puts.specs.step_model.Contents.{same_key, is_touched, touched_streams, IsTouchedRecord, MayDiffer, IsLeft}
+use Rattle.file_puts.specs.step_model.Steps.{and_journal}
 
 -- ---- without a journal
 

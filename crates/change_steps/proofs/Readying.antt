@@ -8,15 +8,15 @@ use Rattle.record_model.specs.Constants.{data_type}
 use Rattle.file_tree.specs.declared.node.Node.{Node}
 use Rattle.file_tree.specs.declared.tree.Tree.{Tree}
 use Rattle.file_tree.specs.Trees.{node_at as node_by_number, is_directory_kind, without_bytes}
-use Rattle.state_model.specs.declared.geometry.Geometry.{Geometry}
-use Rattle.state_model.specs.declared.stream.Extents.{Extents}
-use Rattle.state_model.specs.declared.stream.Stream.{Stream}
-use Rattle.state_model.specs.declared.stream.Stream.TheVariants.{Held, Placed}
-use Rattle.state_model.specs.Loads.{total_clusters}
-use Rattle.volume_model.specs.Volumes.{Volume, cluster_bits, upper_of}
-use Rattle.volume_model.specs.Nodes.{clusters_or, free_clusters}
-use Rattle.volume_state.specs.Trees.{tree_with, tree_of}
-use Rattle.stream_laws.specs.Sharing.{runs_in}
+use Rattle.file_puts.specs.state_model.declared.geometry.Geometry.{Geometry}
+use Rattle.file_puts.specs.state_model.declared.stream.Extents.{Extents}
+use Rattle.file_puts.specs.state_model.declared.stream.Stream.{Stream}
+use Rattle.file_puts.specs.state_model.declared.stream.Stream.TheVariants.{Held, Placed}
+use Rattle.file_puts.specs.state_model.Loads.{total_clusters}
+use Rattle.file_puts.specs.volume_model.Volumes.{Volume, cluster_bits, upper_of}
+use Rattle.file_puts.specs.volume_model.Nodes.{clusters_or, free_clusters}
+use Rattle.file_puts.specs.volume_state.Trees.{tree_with, tree_of}
+use Rattle.file_puts.specs.stream_laws.Sharing.{runs_in}
 use Rattle.tree_model.specs.declared.script.Op.{Op}
 use Rattle.tree_model.specs.declared.script.Op.TheVariants as op
 use Rattle.tree_model.specs.declared.reply.Reply.{Reply}
@@ -26,24 +26,24 @@ use Rattle.tree_model.specs.Refusals.{first_of, where_so, is_system_node, fixed_
 use Rattle.tree_model.specs.Effects.{bytes_after, valid_after, clusters_after}
 use Rattle.change_lookup.specs.declared.found.Found.TheVariants as found
 use Rattle.change_lookup.specs.Comes.{is_file_change}
-use Rattle.resized_streams.specs.declared.resized.Resized.{Resized}
-use Rattle.resized_streams.specs.Resizing.{unplaced, IsGrown, IsCut, IsSized}
-use Rattle.step_model.specs.Placing.{Growth, more_of}
-use Rattle.step_model.specs.Streams.{Comes, as_value, in_clusters, wanted_data, data_comes, one_change}
-use Rattle.step_model.specs.Plans.{full_row, used_in}
-use Rattle.plan_changes.specs.Files.{IsChangeable}
-use Rattle.plan_changes.proofs.Showing.{node_shows}
-use Rattle.draft_streams.specs.Parts.{touch_bytes}
-use Rattle.draft_records.specs.Records.{written_record}
-use Rattle.record_values.specs.Values.{valued_record}
-use Rattle.plan_draft.specs.declared.touched.Touched.{Touched}
-use Rattle.data_plan.specs.declared.change.DataChange.{DataChange}
-use Rattle.data_plan.specs.declared.change.DataChange.TheVariants as change
-use Rattle.data_plan.specs.Changes.{data_in, ShowsData, growth_of, IsChange}
-use Rattle.data_plan.proofs.Cases.{StaysIn, comes_by}
+use Rattle.file_puts.specs.resized_streams.declared.resized.Resized.{Resized}
+use Rattle.file_puts.specs.resized_streams.Resizing.{unplaced, IsGrown, IsCut, IsSized}
+use Rattle.file_puts.specs.step_model.Placing.{Growth, more_of}
+use Rattle.file_puts.specs.step_model.Streams.{Comes, as_value, in_clusters, wanted_data, data_comes, one_change}
+use Rattle.file_puts.specs.step_model.Plans.{full_row, used_in}
+use Rattle.file_puts.specs.plan_changes.Files.{IsChangeable}
+use Rattle.file_puts.proofs.plan_changes.Showing.{node_shows}
+use Rattle.file_puts.specs.draft_streams.Parts.{touch_bytes}
+use Rattle.file_puts.specs.draft_records.Records.{written_record}
+use Rattle.file_puts.specs.record_values.Values.{valued_record}
+use Rattle.file_puts.specs.plan_draft.declared.touched.Touched.{Touched}
+use Rattle.file_puts.specs.data_plan.declared.change.DataChange.{DataChange}
+use Rattle.file_puts.specs.data_plan.declared.change.DataChange.TheVariants as change
+use Rattle.file_puts.specs.data_plan.Changes.{data_in, ShowsData, growth_of, IsChange}
+use Rattle.file_puts.proofs.data_plan.Cases.{StaysIn, comes_by}
 use Rattle.file_puts.specs.declared.streams.VolumeStreams.{VolumeStreams}
 use Rattle.file_puts.specs.Puts.{with_bytes, first_fresh, PutsFileValue, PutsTimes, PutsSizes, PutsValue, PutsLeaving, PutsSized, PutsChange}
-use Rattle.plan_changes.specs.Bytes.{place_of, put_of}
+use Rattle.file_puts.specs.plan_changes.Bytes.{place_of, put_of}
 use Rattle.change_steps.specs.Found.{HasChange, Finds}
 use Rattle.change_steps.specs.Ready.{BareIsEnough}
 use Rattle.change_steps.proofs.Rows.{change_rows_there}

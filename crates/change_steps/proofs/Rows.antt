@@ -12,7 +12,7 @@ use Rattle.tree_model.specs.Walks.{reached, reached_directory, bad_name}
 use Rattle.tree_model.specs.declared.reply.Reply.TheVariants as reply
 use Rattle.tree_model.specs.Needs.{changes_file, needed, reserve}
 use Rattle.tree_model.specs.Refusals.{first_of, where_so, from_there, parent_path, new_name, is_system_node, fixed_names, fixed_bytes, too_long, table_full, no_space, has_same_name, create_rows, change_rows}
-use Rattle.tree_lookup.specs.Answered.{bare_result}
+use Rattle.change_lookup.specs.tree_lookup.Answered.{bare_result}
 use Rattle.change_lookup.specs.declared.found.Found.TheVariants.{Refused, File, Place}
 use Rattle.change_lookup.specs.Comes.{FindsBy}
 

@@ -3,10 +3,10 @@ use Rattle.std.specs.Prelude.{◌≡◌, ℕ, true, false, List, [], ◌∷◌, 
 use Rattle.disk_model.specs.Content.{Content}
 use Rattle.record_model.specs.Records.{Record}
 use Rattle.file_tree.specs.declared.node.Node.{Node}
-use Rattle.state_model.specs.declared.geometry.Geometry.{Geometry}
-use Rattle.volume_model.specs.Volumes.{Volume, cluster_bits}
-use Rattle.volume_state.specs.Trees.{tree_of}
-use Rattle.plan_owners.specs.States.{Stands}
+use Rattle.file_puts.specs.state_model.declared.geometry.Geometry.{Geometry}
+use Rattle.file_puts.specs.volume_model.Volumes.{Volume, cluster_bits}
+use Rattle.file_puts.specs.volume_state.Trees.{tree_of}
+use Rattle.file_puts.specs.plan_owners.States.{Stands}
 use Rattle.tree_model.specs.declared.script.Op.{Op}
 use Rattle.tree_model.specs.declared.script.Op.TheVariants as op
 use Rattle.tree_model.specs.declared.reply.Reply.{Reply}
@@ -15,13 +15,13 @@ use Rattle.tree_model.specs.Needs.{needed}
 use Rattle.tree_model.specs.Effects.{HasChanged}
 use Rattle.tree_model.specs.Steps.{is_given_up}
 use Rattle.change_lookup.specs.declared.found.Found.TheVariants.{Refused, File}
-use Rattle.step_model.specs.Contents.{IsLeft}
-use Rattle.step_model.specs.Steps.{Step}
-use Rattle.data_plan.specs.Changes.{growth_of, row_of}
-use Rattle.plan_draft.specs.declared.touched.Touched.{Touched}
-use Rattle.plan_draft.specs.Drafts.{drafted}
+use Rattle.file_puts.specs.step_model.Contents.{IsLeft}
+use Rattle.file_puts.specs.step_model.Steps.{Step}
+use Rattle.file_puts.specs.data_plan.Changes.{growth_of, row_of}
+use Rattle.file_puts.specs.plan_draft.declared.touched.Touched.{Touched}
+use Rattle.file_puts.specs.plan_draft.Drafts.{drafted}
 use Rattle.file_puts.specs.Written.{HasWritten}
-use Rattle.plan_changes.specs.Files.{IsChangeable}
+use Rattle.file_puts.specs.plan_changes.Files.{IsChangeable}
 use Rattle.change_steps.specs.Found.{HasChange, Finds}
 
 -- what is said of a file that is written or cut, or stays as it is

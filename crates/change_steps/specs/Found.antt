@@ -5,9 +5,9 @@ use Rattle.disk_model.specs.Content.{Content}
 use Rattle.record_model.specs.Records.{Record}
 use Rattle.file_tree.specs.declared.node.Node.{Node}
 use Rattle.file_tree.specs.Trees.{node_at as node_by_number, is_directory_kind, without_bytes}
-use Rattle.state_model.specs.declared.geometry.Geometry.{Geometry}
-use Rattle.volume_model.specs.Volumes.{Volume, upper_of}
-use Rattle.volume_state.specs.Trees.{tree_of}
+use Rattle.file_puts.specs.state_model.declared.geometry.Geometry.{Geometry}
+use Rattle.file_puts.specs.volume_model.Volumes.{Volume, upper_of}
+use Rattle.file_puts.specs.volume_state.Trees.{tree_of}
 use Rattle.tree_model.specs.declared.script.Op.{Op}
 use Rattle.tree_model.specs.declared.script.Op.TheVariants.{Create}
 use Rattle.tree_model.specs.Needs.{changes_file}
@@ -17,8 +17,8 @@ use Rattle.tree_model.specs.Effects.{numbers_to_take, least_ref}
 use Rattle.change_lookup.specs.declared.found.Found.{Found}
 use Rattle.change_lookup.specs.declared.found.Found.TheVariants.{File, Place}
 use Rattle.change_lookup.specs.Comes.{is_file_change, ComesTo}
-use Rattle.plan_owners.specs.States.{Stands}
-use Rattle.plan_changes.specs.Files.{IsChangeable}
+use Rattle.file_puts.specs.plan_owners.States.{Stands}
+use Rattle.file_puts.specs.plan_changes.Files.{IsChangeable}
 
 -- A content without a change journal, of eight sectors a cluster, and an operation that makes, writes or cuts a file.
 pub record HasChange (c : Content) (g : Geometry) (clusters : ℕ) (v : Volume) (op : Op) : Type 0 where

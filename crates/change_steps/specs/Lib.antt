@@ -1,3 +1,31 @@
+pub use Rattle.change_lookup.specs as change_lookup
+pub use Rattle.file_puts.specs as file_puts
+pub use Rattle.file_puts.specs.data_plan
+pub use Rattle.file_puts.specs.draft_bits
+pub use Rattle.file_puts.specs.draft_records
+pub use Rattle.file_puts.specs.draft_resized
+pub use Rattle.file_puts.specs.draft_runs
+pub use Rattle.file_puts.specs.draft_streams
+pub use Rattle.file_puts.specs.plan_changes
+pub use Rattle.file_puts.specs.plan_draft
+pub use Rattle.file_puts.specs.plan_edits
+pub use Rattle.file_puts.specs.plan_growth
+pub use Rattle.file_puts.specs.plan_informed
+pub use Rattle.file_puts.specs.plan_model
+pub use Rattle.file_puts.specs.plan_owners
+pub use Rattle.file_puts.specs.plan_values
+pub use Rattle.file_puts.specs.record_streams
+pub use Rattle.file_puts.specs.record_times
+pub use Rattle.file_puts.specs.record_values
+pub use Rattle.file_puts.specs.record_writer
+pub use Rattle.file_puts.specs.resized_streams
+pub use Rattle.file_puts.specs.space_model
+pub use Rattle.file_puts.specs.state_model
+pub use Rattle.file_puts.specs.step_model
+pub use Rattle.file_puts.specs.stream_laws
+pub use Rattle.file_puts.specs.stream_runs
+pub use Rattle.file_puts.specs.volume_model
+pub use Rattle.file_puts.specs.volume_state
 pub mod Found
 pub mod Changes
 pub mod Makings

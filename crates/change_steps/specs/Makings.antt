@@ -4,10 +4,10 @@ use Rattle.host_base.specs.declared.file_ref.FileRef.{FileRef}
 use Rattle.disk_model.specs.Content.{Content}
 use Rattle.file_tree.specs.declared.node.Node.{Node}
 use Rattle.file_tree.specs.Trees.{node_at as node_by_number}
-use Rattle.state_model.specs.declared.geometry.Geometry.{Geometry}
-use Rattle.volume_model.specs.Volumes.{Volume}
-use Rattle.volume_state.specs.Trees.{tree_of}
-use Rattle.plan_owners.specs.States.{Stands}
+use Rattle.file_puts.specs.state_model.declared.geometry.Geometry.{Geometry}
+use Rattle.file_puts.specs.volume_model.Volumes.{Volume}
+use Rattle.file_puts.specs.volume_state.Trees.{tree_of}
+use Rattle.file_puts.specs.plan_owners.States.{Stands}
 use Rattle.tree_model.specs.declared.script.Op.TheVariants.{Create}
 use Rattle.tree_model.specs.declared.reply.Reply.{Reply}
 use Rattle.tree_model.specs.declared.reply.Reply.TheVariants.{Created}
@@ -15,9 +15,9 @@ use Rattle.tree_model.specs.Needs.{needed}
 use Rattle.tree_model.specs.Refusals.{first_of}
 use Rattle.tree_model.specs.Effects.{HasCreated}
 use Rattle.change_lookup.specs.declared.found.Found.TheVariants.{Place}
-use Rattle.step_model.specs.Plans.{Plan, IsMadePlan, content_rows}
-use Rattle.step_model.specs.Contents.{IsLeft}
-use Rattle.step_model.specs.Steps.{HasIndex, Step}
+use Rattle.file_puts.specs.step_model.Plans.{Plan, IsMadePlan, content_rows}
+use Rattle.file_puts.specs.step_model.Contents.{IsLeft}
+use Rattle.file_puts.specs.step_model.Steps.{HasIndex, Step}
 use Rattle.change_steps.specs.Found.{HasChange, Finds}
 
 -- A content that stands, whose tree is that with the new file, and that has what the plan leaves.

@@ -5,16 +5,16 @@ use Rattle.record_model.specs.Pairs.{cluster_limit}
 use Rattle.record_model.specs.Records.{Record}
 use Rattle.file_tree.specs.declared.node.Node.{Node}
 use Rattle.file_tree.specs.Trees.{without_bytes}
-use Rattle.state_model.specs.declared.geometry.Geometry.{Geometry}
-use Rattle.volume_model.specs.Volumes.{Volume, cluster_bits}
+use Rattle.file_puts.specs.state_model.declared.geometry.Geometry.{Geometry}
+use Rattle.file_puts.specs.volume_model.Volumes.{Volume, cluster_bits}
 use Rattle.tree_model.specs.declared.script.Op.{Op}
 use Rattle.change_lookup.specs.declared.found.Found.TheVariants.{File}
-use Rattle.step_model.specs.Placing.{Growth, more_of}
-use Rattle.plan_changes.specs.Files.{IsChangeable}
-use Rattle.plan_draft.specs.declared.touched.Touched.{Touched}
-use Rattle.record_streams.specs.Fitting.{FitsButRoom}
-use Rattle.data_plan.specs.declared.change.DataChange.{DataChange}
-use Rattle.data_plan.specs.Changes.{ShowsData, GrowsLittle, growth_of, row_of, IsChange}
+use Rattle.file_puts.specs.step_model.Placing.{Growth, more_of}
+use Rattle.file_puts.specs.plan_changes.Files.{IsChangeable}
+use Rattle.file_puts.specs.plan_draft.declared.touched.Touched.{Touched}
+use Rattle.file_puts.specs.record_streams.Fitting.{FitsButRoom}
+use Rattle.file_puts.specs.data_plan.declared.change.DataChange.{DataChange}
+use Rattle.file_puts.specs.data_plan.Changes.{ShowsData, GrowsLittle, growth_of, row_of, IsChange}
 use Rattle.file_puts.specs.declared.streams.VolumeStreams.{VolumeStreams}
 use Rattle.file_puts.specs.Puts.{PutsChange}
 use Rattle.change_steps.specs.Found.{HasChange, Finds}

@@ -6,6 +6,9 @@
 
 mod laws;
 
+pub use file_puts::{
+    data_extents, file, reads_the_table, steps_of_trees, steps_stay, times_are_set,
+};
 pub use laws::{
     bare_is_enough, changes_are_steps, drafts_are_written, files_are_ready, found_is_there,
     makings_are_steps,

@@ -7,13 +7,13 @@ use Rattle.stream_laws.specs.Owners.{IsLive}
 use Rattle.log_model.specs.declared.entry.Entry.{Entry}
 use Rattle.log_model.specs.Logs.{is_in_grid, is_shadowed, first_rival}
 use Rattle.log_page.specs.declared.places.LogPlace.{LogPlace}
-use Rattle.log_recovery.specs.Recovering.{shadow_lsn}
+use Rattle.txn_mount.specs.log_recovery.Recovering.{shadow_lsn}
 use Rattle.store_model.specs.Geometry.{SectorBytes}
 use Rattle.store_model.proofs.Told.{true≢false}
 use Rattle.store_claims.specs.Windows.{StoreWindow}
-use Rattle.txn_laws.specs.Windows.{RecoversWithin}
-use Rattle.volume_shadows.specs.Live.{least_live}
-use Rattle.volume_shadows.proofs.Listing.{least_is_of}
+use Rattle.member_states.specs.txn_laws.Windows.{RecoversWithin}
+use Rattle.mount_laws.specs.volume_shadows.Live.{least_live}
+use Rattle.mount_laws.proofs.volume_shadows.Listing.{least_is_of}
 use Rattle.member_states.specs.Members.{VolumeBase, MemberIs}
 use Rattle.crash_mounts.specs.Clearing.{IsLogClear, NoneShadowed}
 

@@ -22,18 +22,18 @@ use Rattle.volume_model.specs.Owners.{uses}
 use Rattle.volume_model.specs.Sizes.{fits_volume, has_sizes, lies_inside, keeps_streams}
 use Rattle.stream_laws.specs.Owners.{stream_kind, initialised_in}
 use Rattle.stream_laws.specs.Sharing.{StreamKey, stream_at, runs_in}
-use Rattle.plan_owners.specs.Agreeing.{log_key}
-use Rattle.plan_owners.specs.Kinds.{cluster_of}
-use Rattle.plan_owners.specs.States.{Stands}
-use Rattle.plan_owners.proofs.Standing.{streams_at}
-use Rattle.plan_model.proofs.Drafting.{per_is}
+use Rattle.mount_laws.specs.plan_owners.Agreeing.{log_key}
+use Rattle.mount_laws.specs.plan_owners.Kinds.{cluster_of}
+use Rattle.mount_laws.specs.plan_owners.States.{Stands}
+use Rattle.mount_laws.proofs.plan_owners.Standing.{streams_at}
+use Rattle.plan_growth.proofs.plan_model.Drafting.{per_is}
 use Rattle.plan_growth.proofs.Placed.{some_attributes, stream_rule}
 use Rattle.log_page.specs.declared.places.LogPlace.{LogPlace}
 use Rattle.log_reading.specs.LogPages.{log_sector}
 use Rattle.log_reading.specs.Rings.{IsRingPlace}
-use Rattle.log_area.specs.Areas.{page_first}
-use Rattle.image_open.specs.LogPlaces.{place_of_log, LieAlike}
-use Rattle.image_open.proofs.Lying.{log_lies_in_stream}
+use Rattle.member_states.specs.log_area.Areas.{page_first}
+use Rattle.mount_laws.specs.image_open.LogPlaces.{place_of_log, LieAlike}
+use Rattle.mount_laws.proofs.image_open.Lying.{log_lies_in_stream}
 use Rattle.crash_mounts.specs.Clearing.{PagesHoldLog, PagesHold, LogsAreFiles}
 use Rattle.crash_mounts.proofs.Logs.{first_at}
 

@@ -5,16 +5,16 @@ use Rattle.disk_model.specs.Content.{Content}
 use Rattle.state_model.specs.declared.broken.Broken.{Broken}
 use Rattle.state_model.specs.declared.geometry.MapRefusal.{MapRefusal}
 use Rattle.volume_model.specs.Volumes.{Volume, cluster_bits, upper_of}
-use Rattle.volume_state.specs.Rules.{first_broken}
-use Rattle.volume_state.specs.Trees.{reported, checked}
+use Rattle.mount_laws.specs.volume_state.Rules.{first_broken}
+use Rattle.mount_laws.specs.volume_state.Trees.{reported, checked}
 use Rattle.log_page.specs.declared.places.LogPlace.{LogPlace}
-use Rattle.image_open.specs.declared.refusal.Refusal.{Refusal}
-use Rattle.image_open.specs.Errors.{map_refusal, refused_as}
-use Rattle.image_read.specs.Errors.{broken_refusal}
-use Rattle.image_read.specs.Checks.{volume_on, tree_on}
-use Rattle.volume_shadows.specs.Live.{least_live}
-use Rattle.volume_mount.specs.Mounts.{Said, unless_said, has_pages, changeable, may_be_changed, unshadowed, placed, ruled, settled, paged, unjournaled, tried, loaded_on}
-use Rattle.volume_mount.specs.Welcome.{IsWelcome}
+use Rattle.mount_laws.specs.image_open.declared.refusal.Refusal.{Refusal}
+use Rattle.mount_laws.specs.image_open.Errors.{map_refusal, refused_as}
+use Rattle.mount_laws.specs.image_read.Errors.{broken_refusal}
+use Rattle.mount_laws.specs.image_read.Checks.{volume_on, tree_on}
+use Rattle.mount_laws.specs.volume_shadows.Live.{least_live}
+use Rattle.mount_laws.specs.volume_mount.Mounts.{Said, unless_said, has_pages, changeable, may_be_changed, unshadowed, placed, ruled, settled, paged, unjournaled, tried, loaded_on}
+use Rattle.mount_laws.specs.volume_mount.Welcome.{IsWelcome}
 use Rattle.crash_mounts.specs.Loading.{StatesLoad}
 
 ruled_ok : (c : Content) (v : Volume) → first_broken c v ≡ None → ruled c v ≡ Ok v

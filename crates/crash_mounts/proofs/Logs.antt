@@ -7,7 +7,7 @@ use Rattle.disk_model.specs.declared.block.Block.{Block}
 use Rattle.disk_model.specs.declared.block.BlockKind.{BlockKind}
 use Rattle.disk_model.specs.declared.block.BlockKind.TheVariants.{Plain, FileRec, Index}
 use Rattle.disk_model.specs.Sectors.{sectors, are_rivals}
-use Rattle.plan_owners.proofs.ByKind.{in_grid, one_cluster}
+use Rattle.mount_laws.proofs.plan_owners.ByKind.{in_grid, one_cluster}
 use Rattle.log_model.specs.declared.entry.Entry.{Entry}
 use Rattle.log_model.specs.declared.entry.Act.{Act}
 use Rattle.log_model.specs.declared.entry.Act.TheVariants.{Update, Commit}
@@ -15,15 +15,15 @@ use Rattle.log_model.specs.Logs.{block_of_kind, is_in_grid, updates, updates_riv
 use Rattle.log_page.specs.declared.places.LogPlace.{LogPlace}
 use Rattle.log_reading.specs.LogPages.{log_sector}
 use Rattle.log_reading.specs.Rings.{IsPageAt, IsRingPlace}
-use Rattle.log_area.specs.Areas.{page_first}
-use Rattle.ring_laws.specs.PageBytes.{page_sector}
-use Rattle.ring_laws.proofs.SeenDisks.{not_own}
+use Rattle.member_states.specs.log_area.Areas.{page_first}
+use Rattle.member_states.specs.ring_laws.PageBytes.{page_sector}
+use Rattle.member_states.proofs.ring_laws.SeenDisks.{not_own}
 use Rattle.store_model.specs.Logs.{has_update}
 use Rattle.store_model.specs.Volumes.{is_known, is_free}
 use Rattle.store_model.proofs.Known.{is_in}
 use Rattle.store_model.proofs.Told.{true≢false, same_self}
-use Rattle.txn_model.specs.Values.{is_own}
-use Rattle.txn_laws.proofs.PageWrites.{page_is_own}
+use Rattle.member_states.specs.txn_model.Values.{is_own}
+use Rattle.member_states.proofs.txn_laws.PageWrites.{page_is_own}
 use Rattle.crash_mounts.specs.Clearing.{LogsStayClear}
 use Rattle.crash_mounts.proofs.Opening.{or_first, or_second}
 

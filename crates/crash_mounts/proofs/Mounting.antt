@@ -8,33 +8,33 @@ use Rattle.disk_model.specs.Content.{Content, content_of}
 use Rattle.record_model.proofs.Answering.{steps_from_ok, needs_from_ok}
 use Rattle.state_model.specs.declared.geometry.MapRefusal.{MapRefusal}
 use Rattle.volume_model.specs.Volumes.{Volume, volume_of, file_in, log_file, cluster_bits, upper_of}
-use Rattle.volume_state.specs.Trees.{tree_of}
-use Rattle.plan_owners.specs.States.{Stands}
-use Rattle.state_blocks.specs.Needing.{AgreeOnNeeded, NeededIsAll}
+use Rattle.mount_laws.specs.volume_state.Trees.{tree_of}
+use Rattle.mount_laws.specs.plan_owners.States.{Stands}
+use Rattle.member_states.specs.state_blocks.Needing.{AgreeOnNeeded, NeededIsAll}
 use Rattle.log_model.specs.declared.entry.Entry.{Entry}
 use Rattle.log_model.specs.Logs.{recovered}
 use Rattle.log_page.specs.declared.places.LogPlace.{LogPlace}
 use Rattle.log_page.specs.declared.restart.Restart.{Restart}
 use Rattle.log_page.specs.RecordPages.{Reading}
 use Rattle.log_page.specs.LiveLogs.{live_log}
-use Rattle.log_recovery.specs.LogStates.{LogState}
-use Rattle.log_recovery.specs.Recovering.{shadow_lsn}
-use Rattle.log_recovery.specs.Writing.{to_write_in}
-use Rattle.image_open.specs.declared.refusal.Refusal.{Refusal}
-use Rattle.image_open.specs.declared.refusal.Refusal.TheVariants.{Short, LogSmall}
-use Rattle.image_open.specs.Writing.{OpenedToWrite, opened_to_write_in}
-use Rattle.image_read.specs.Checks.{volume_on, has_version}
-use Rattle.ring_laws.specs.PageBytes.{raw_page}
+use Rattle.txn_mount.specs.log_recovery.LogStates.{LogState}
+use Rattle.txn_mount.specs.log_recovery.Recovering.{shadow_lsn}
+use Rattle.txn_mount.specs.log_recovery.Writing.{to_write_in}
+use Rattle.mount_laws.specs.image_open.declared.refusal.Refusal.{Refusal}
+use Rattle.mount_laws.specs.image_open.declared.refusal.Refusal.TheVariants.{Short, LogSmall}
+use Rattle.mount_laws.specs.image_open.Writing.{OpenedToWrite, opened_to_write_in}
+use Rattle.mount_laws.specs.image_read.Checks.{volume_on, has_version}
+use Rattle.member_states.specs.ring_laws.PageBytes.{raw_page}
 use Rattle.store_claims.specs.Windows.{StoreWindow}
-use Rattle.txn_laws.specs.Windows.{RecoversWithin}
-use Rattle.volume_mount.specs.Boot.{KeepsBoot, keeps_boot}
-use Rattle.volume_mount.specs.Mounts.{Said, has_no_journal, front_sectors, lying_pages, pages_needed, pages_lie, has_single_lists, has_pages, changeable, may_be_changed, unshadowed, placed, ruled, settled, paged, unjournaled, tried, loaded_on, MountedVolume, content_behind, mounted_as, mounted_by, mounted_in, mounted_of}
+use Rattle.member_states.specs.txn_laws.Windows.{RecoversWithin}
+use Rattle.mount_laws.specs.volume_mount.Boot.{KeepsBoot, keeps_boot}
+use Rattle.mount_laws.specs.volume_mount.Mounts.{Said, has_no_journal, front_sectors, lying_pages, pages_needed, pages_lie, has_single_lists, has_pages, changeable, may_be_changed, unshadowed, placed, ruled, settled, paged, unjournaled, tried, loaded_on, MountedVolume, content_behind, mounted_as, mounted_by, mounted_in, mounted_of}
 use Rattle.member_states.specs.Members.{VolumeBase, MembersAre}
 use Rattle.member_states.specs.Crashes.{RecoversToState}
 use Rattle.member_states.proofs.Recovering.{to_state}
 use Rattle.crash_mounts.specs.Opening.{with_state}
-use Rattle.volume_mount.specs.Welcome.{IsWelcome}
-use Rattle.volume_mount.proofs.Booting.{passes}
+use Rattle.mount_laws.specs.volume_mount.Welcome.{IsWelcome}
+use Rattle.mount_laws.proofs.volume_mount.Booting.{passes}
 use Rattle.crash_mounts.specs.Mounting.{base_behind, IsLeftBy, MountsAsState, CrashesMount}
 use Rattle.crash_mounts.proofs.Opening.{opens_alike}
 use Rattle.crash_mounts.proofs.Reading.{reads_list}

@@ -15,13 +15,13 @@ use Rattle.boot_sector.specs.declared.boot.Boot.{Boot}
 use Rattle.boot_sector.specs.BootSectors.{boot_of, clusters}
 use Rattle.log_page.specs.declared.places.LogPlace.{LogPlace}
 use Rattle.log_reading.specs.declared.fault.LogRefusal.{LogRefusal}
-use Rattle.log_recovery.specs.LogStates.{LogState}
-use Rattle.log_recovery.specs.Writing.{to_write_in}
-use Rattle.image_open.specs.declared.refusal.Refusal.{Refusal}
-use Rattle.image_open.specs.Errors.{boot_refusal, map_refusal, log_refusal, refused_as}
-use Rattle.image_open.specs.Clusters.{clusters_in, eight_sectors}
-use Rattle.image_open.specs.Volumes.{boot_place, boot_in, boot_on, sized_on, geometry_of, log_record, log_place}
-use Rattle.image_open.specs.Writing.{OpenedToWrite, found_by, log_to_write, opened_at, opened_of, opened_with, opened_behind, opened_to_write_in}
+use Rattle.txn_mount.specs.log_recovery.LogStates.{LogState}
+use Rattle.txn_mount.specs.log_recovery.Writing.{to_write_in}
+use Rattle.mount_laws.specs.image_open.declared.refusal.Refusal.{Refusal}
+use Rattle.mount_laws.specs.image_open.Errors.{boot_refusal, map_refusal, log_refusal, refused_as}
+use Rattle.mount_laws.specs.image_open.Clusters.{clusters_in, eight_sectors}
+use Rattle.mount_laws.specs.image_open.Volumes.{boot_place, boot_in, boot_on, sized_on, geometry_of, log_record, log_place}
+use Rattle.mount_laws.specs.image_open.Writing.{OpenedToWrite, found_by, log_to_write, opened_at, opened_of, opened_with, opened_behind, opened_to_write_in}
 use Rattle.store_model.proofs.Told.{same_self}
 use Rattle.crash_mounts.specs.Opening.{AreFoundAlike, with_state, OpensAlike}
 

@@ -18,15 +18,15 @@ use Rattle.log_reading.specs.declared.fault.LogRefusal.TheVariants.{ForeignLog}
 use Rattle.log_reading.specs.Fronts.{chosen_in}
 use Rattle.log_reading.specs.LogPages.{page_in}
 use Rattle.log_reading.specs.Rings.{IsRingPlace}
-use Rattle.log_recovery.specs.LogStates.{LogState, own_entries, entries_by, live_entries_in}
-use Rattle.log_recovery.specs.Writing.{to_write_in}
-use Rattle.image_open.proofs.Alike.{to_write_alike}
-use Rattle.ring_laws.specs.PageBytes.{raw_page}
-use Rattle.ring_laws.proofs.LogSectors.{read_is_raw}
+use Rattle.txn_mount.specs.log_recovery.LogStates.{LogState, own_entries, entries_by, live_entries_in}
+use Rattle.txn_mount.specs.log_recovery.Writing.{to_write_in}
+use Rattle.mount_laws.proofs.image_open.Alike.{to_write_alike}
+use Rattle.member_states.specs.ring_laws.PageBytes.{raw_page}
+use Rattle.member_states.proofs.ring_laws.LogSectors.{read_is_raw}
 use Rattle.store_model.specs.Geometry.{SectorBytes}
 use Rattle.store_claims.specs.Windows.{StoreWindow}
-use Rattle.txn_model.specs.Values.{is_own}
-use Rattle.txn_laws.specs.Windows.{RecoversWithin}
+use Rattle.member_states.specs.txn_model.Values.{is_own}
+use Rattle.member_states.specs.txn_laws.Windows.{RecoversWithin}
 use Rattle.txn_mount.proofs.Finding.{front_parts}
 use Rattle.txn_mount.proofs.Frames.{live_alike}
 use Rattle.txn_mount.proofs.Mountable.{stores_mount_law}

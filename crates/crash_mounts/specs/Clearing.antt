@@ -8,23 +8,23 @@ use Rattle.volume_model.specs.Volumes.{Volume, file_in, log_file}
 use Rattle.volume_model.specs.Owners.{uses}
 use Rattle.stream_laws.specs.Owners.{initialised_in, IsLive}
 use Rattle.stream_laws.specs.Sharing.{stream_at, runs_in}
-use Rattle.plan_owners.specs.Agreeing.{log_key}
-use Rattle.plan_owners.specs.Kinds.{cluster_of}
-use Rattle.plan_owners.specs.States.{Stands}
+use Rattle.mount_laws.specs.plan_owners.Agreeing.{log_key}
+use Rattle.mount_laws.specs.plan_owners.Kinds.{cluster_of}
+use Rattle.mount_laws.specs.plan_owners.States.{Stands}
 use Rattle.log_model.specs.declared.entry.Entry.{Entry}
 use Rattle.log_model.specs.Logs.{is_shadowed}
 use Rattle.log_page.specs.declared.places.LogPlace.{LogPlace}
 use Rattle.log_reading.specs.Rings.{IsRingPlace}
-use Rattle.log_recovery.specs.Recovering.{shadow_lsn}
-use Rattle.image_open.specs.LogPlaces.{place_of_log, LieAlike}
-use Rattle.log_area.specs.Areas.{page_first}
+use Rattle.txn_mount.specs.log_recovery.Recovering.{shadow_lsn}
+use Rattle.mount_laws.specs.image_open.LogPlaces.{place_of_log, LieAlike}
+use Rattle.member_states.specs.log_area.Areas.{page_first}
 use Rattle.store_model.specs.Geometry.{SectorBytes}
 use Rattle.store_model.specs.Logs.{has_update}
 use Rattle.store_model.specs.Volumes.{is_known}
 use Rattle.store_claims.specs.Windows.{StoreWindow}
-use Rattle.txn_model.specs.Values.{is_own}
-use Rattle.txn_laws.specs.Windows.{RecoversWithin}
-use Rattle.volume_shadows.specs.Live.{least_live}
+use Rattle.member_states.specs.txn_model.Values.{is_own}
+use Rattle.member_states.specs.txn_laws.Windows.{RecoversWithin}
+use Rattle.mount_laws.specs.volume_shadows.Live.{least_live}
 use Rattle.member_states.specs.Members.{VolumeBase, MemberIs}
 
 -- none of the log's own blocks is

@@ -3,11 +3,11 @@ use Rattle.std.specs.Prelude.{◌≡◌, ℕ, None, Ok}
 use Rattle.disk_model.specs.Content.{Content}
 use Rattle.state_model.specs.declared.geometry.Geometry.{Geometry}
 use Rattle.volume_model.specs.Volumes.{Volume}
-use Rattle.plan_owners.specs.States.{Stands}
+use Rattle.mount_laws.specs.plan_owners.States.{Stands}
 use Rattle.log_page.specs.declared.places.LogPlace.{LogPlace}
-use Rattle.volume_shadows.specs.Live.{least_live}
-use Rattle.volume_mount.specs.Mounts.{Said, has_pages, may_be_changed, loaded_on}
-use Rattle.volume_mount.specs.Welcome.{IsWelcome}
+use Rattle.mount_laws.specs.volume_shadows.Live.{least_live}
+use Rattle.mount_laws.specs.volume_mount.Mounts.{Said, has_pages, may_be_changed, loaded_on}
+use Rattle.mount_laws.specs.volume_mount.Welcome.{IsWelcome}
 
 -- Such a state is loaded, where its log at this place has its pages, which lie on the device, and shadows no live block.
 abbrev pub StatesLoad : Type 0

@@ -3,19 +3,19 @@ use Rattle.std.specs.Prelude.{◌≡◌, ◌^◌, ◌≤◌, ℕ, List, length, 
 use Rattle.disk_model.specs.Sectors.{sector_of}
 use Rattle.disk_model.specs.Content.{content_of}
 use Rattle.volume_model.specs.Volumes.{Volume}
-use Rattle.volume_state.specs.Trees.{tree_of}
+use Rattle.mount_laws.specs.volume_state.Trees.{tree_of}
 use Rattle.log_model.specs.Logs.{recovered}
 use Rattle.log_page.specs.declared.places.LogPlace.{LogPlace}
 use Rattle.log_reading.specs.Rings.{IsRingPlace}
-use Rattle.image_open.specs.LogPlaces.{LieAlike}
-use Rattle.image_open.specs.Writing.{found_by}
+use Rattle.mount_laws.specs.image_open.LogPlaces.{LieAlike}
+use Rattle.mount_laws.specs.image_open.Writing.{found_by}
 use Rattle.store_claims.specs.Windows.{StoreWindow}
-use Rattle.txn_model.specs.Values.{is_own}
-use Rattle.txn_laws.specs.Windows.{RecoversWithin, next_lap_in}
+use Rattle.member_states.specs.txn_model.Values.{is_own}
+use Rattle.member_states.specs.txn_laws.Windows.{RecoversWithin, next_lap_in}
 use Rattle.txn_mount.specs.Mountable.{IsFar}
-use Rattle.volume_mount.specs.Mounts.{MountedVolume, tree_in, mounted_of}
+use Rattle.mount_laws.specs.volume_mount.Mounts.{MountedVolume, tree_in, mounted_of}
 use Rattle.member_states.specs.Members.{VolumeBase, BearsFound, MemberIs}
-use Rattle.volume_mount.specs.Welcome.{IsWelcome}
+use Rattle.mount_laws.specs.volume_mount.Welcome.{IsWelcome}
 use Rattle.crash_mounts.specs.Clearing.{IsLogClear}
 
 -- what the states of a volume stand on that was mounted from these sectors, with its log at this place

@@ -5,9 +5,9 @@ use Rattle.disk_model.specs.declared.block.Block.{Block}
 use Rattle.disk_model.specs.Sectors.{same_block}
 use Rattle.disk_model.specs.Content.{Content}
 use Rattle.state_model.specs.declared.geometry.Geometry.{Geometry}
-use Rattle.log_recovery.specs.LogStates.{LogState}
-use Rattle.log_recovery.specs.Writing.{to_write_in}
-use Rattle.image_open.specs.Writing.{OpenedToWrite, found_by, opened_to_write_in}
+use Rattle.txn_mount.specs.log_recovery.LogStates.{LogState}
+use Rattle.txn_mount.specs.log_recovery.Writing.{to_write_in}
+use Rattle.mount_laws.specs.image_open.Writing.{OpenedToWrite, found_by, opened_to_write_in}
 
 -- the second content has the bodies of the first in the blocks by which the log of a volume of this geometry is found
 abbrev pub AreFoundAlike : Geometry → Content → Content → Type 0

@@ -4,13 +4,13 @@ use Rattle.disk_model.specs.declared.block.Block.{Block}
 use Rattle.disk_model.specs.Content.{content_of}
 use Rattle.log_page.specs.declared.places.LogPlace.{LogPlace}
 use Rattle.log_reading.specs.Rings.{IsRingPlace}
-use Rattle.log_recovery.specs.LogStates.{LogState}
-use Rattle.log_recovery.specs.Writing.{to_write_in}
-use Rattle.image_open.specs.LogPlaces.{LieAlike}
+use Rattle.txn_mount.specs.log_recovery.LogStates.{LogState}
+use Rattle.txn_mount.specs.log_recovery.Writing.{to_write_in}
+use Rattle.mount_laws.specs.image_open.LogPlaces.{LieAlike}
 use Rattle.store_model.specs.Geometry.{SectorBytes}
 use Rattle.store_claims.specs.Windows.{StoreWindow}
-use Rattle.txn_model.specs.Values.{is_own}
-use Rattle.txn_laws.specs.Windows.{RecoversWithin, next_lap_in}
+use Rattle.member_states.specs.txn_model.Values.{is_own}
+use Rattle.member_states.specs.txn_laws.Windows.{RecoversWithin, next_lap_in}
 use Rattle.txn_mount.specs.Mountable.{IsFar}
 
 -- Where its laps don't come near their end, a mount that writes reads the list by which the image recovers, and doesn't refuse it; also of the same log by other runs.

@@ -5,7 +5,7 @@ ghost use Rattle.crash_mounts.specs.Mounting.{CrashesMount};
 ghost use Rattle.crash_mounts.specs.Opening.{OpensAlike};
 ghost use Rattle.crash_mounts.specs.Reading.{ReadsList};
 
-use state_blocks::needed_is_all;
+use member_states::needed_is_all;
 
 /// Law: contents that agree on the blocks by which a log is found are opened alike by a mount that
 /// writes, but for what the log says.

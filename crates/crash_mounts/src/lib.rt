@@ -10,3 +10,5 @@ pub use laws::{
     crashes_mount, logs_are_files, logs_stay_clear, none_shadowed, opens_alike, pages_hold,
     reads_list, states_load,
 };
+pub use member_states::{endings_tell, needed_is_all, windows_tell};
+pub use mount_laws::mounted_by_record;

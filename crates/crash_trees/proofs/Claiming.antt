@@ -15,21 +15,21 @@ use Rattle.stream_laws.specs.Sharing.{StreamKey, stream_at, runs_in}
 use Rattle.stream_laws.proofs.Changing.{has_sectors}
 use Rattle.stream_laws.proofs.Placing.{lies, lies_in_used}
 use Rattle.state_model.specs.Streams.{block_at}
-use Rattle.plan_owners.specs.Agreeing.{log_key}
-use Rattle.plan_owners.specs.Kinds.{cluster_of}
-use Rattle.plan_owners.proofs.ByKind.{one_cluster}
+use Rattle.crash_mounts.specs.plan_owners.Agreeing.{log_key}
+use Rattle.crash_mounts.specs.plan_owners.Kinds.{cluster_of}
+use Rattle.crash_mounts.proofs.plan_owners.ByKind.{one_cluster}
 use Rattle.log_model.specs.declared.entry.Entry.{Entry}
 use Rattle.log_model.specs.Logs.{may_begin, is_in_grid, is_shadowed}
 use Rattle.store_model.specs.Volumes.{is_free}
 use Rattle.store_claims.specs.Claims.{ClaimWindow}
 use Rattle.store_claims.specs.Moves.{ClaimsStay}
 use Rattle.store_claims.specs.Windows.{StoreWindow}
-use Rattle.txn_model.specs.Values.{StoreFacts, own_of}
-use Rattle.txn_laws.specs.Windows.{ClaimsAll}
-use Rattle.state_store.specs.declared.fault.PutFault.{PutFault}
-use Rattle.state_store.specs.Changes.{MayLog}
-use Rattle.state_store.specs.Claims.{NoRival, ClaimsAfterLeft, ClaimsAfterPut}
-use Rattle.state_store.specs.Windows.{AfterPutting}
+use Rattle.crash_mounts.specs.txn_model.Values.{StoreFacts, own_of}
+use Rattle.crash_mounts.specs.txn_laws.Windows.{ClaimsAll}
+use Rattle.crash_mounts.specs.state_store.declared.fault.PutFault.{PutFault}
+use Rattle.crash_mounts.specs.state_store.Changes.{MayLog}
+use Rattle.crash_mounts.specs.state_store.Claims.{NoRival, ClaimsAfterLeft, ClaimsAfterPut}
+use Rattle.crash_mounts.specs.state_store.Windows.{AfterPutting}
 use Rattle.crash_mounts.specs.Clearing.{IsLogClear}
 use Rattle.crash_trees.specs.Trees.{HasLog, ClaimsLog}
 

@@ -5,25 +5,25 @@ use Rattle.disk_model.specs.Sectors.{sector_of}
 use Rattle.sector_device.specs.Disks.{Disk, MayLeave}
 use Rattle.sector_device.specs.Moments.{Changes, MayLeaveNow, LeftSince}
 use Rattle.file_tree.specs.declared.tree.Tree.{Tree}
-use Rattle.map_change.specs.Parts.{MapParts}
-use Rattle.state_blocks.specs.Needing.{NeededIsAll}
+use Rattle.crash_mounts.specs.map_change.Parts.{MapParts}
+use Rattle.crash_mounts.specs.state_blocks.Needing.{NeededIsAll}
 use Rattle.log_page.specs.declared.places.LogPlace.{LogPlace}
-use Rattle.mount_laws.specs.Laws.{MountedByRecord}
-use Rattle.volume_mount.specs.Mounts.{MountedVolume}
+use Rattle.crash_mounts.specs.mount_laws.Laws.{MountedByRecord}
+use Rattle.crash_mounts.specs.volume_mount.Mounts.{MountedVolume}
 use Rattle.store_claims.specs.Windows.{StoreWindow}
-use Rattle.txn_model.specs.Values.{StoreFacts, own_of}
-use Rattle.txn_laws.specs.Laws.{EndingsTell}
-use Rattle.txn_laws.specs.Windows.{HasEndingWindow, RecoversWithin, lap_behind, next_lap_in}
-use Rattle.txn_mount.specs.Mountable.{IsFar}
-use Rattle.txn_state.specs.States.{facts_of}
-use Rattle.txn_core.specs.Seen.{Seen}
+use Rattle.crash_mounts.specs.txn_model.Values.{StoreFacts, own_of}
+use Rattle.crash_mounts.specs.txn_laws.Laws.{EndingsTell}
+use Rattle.crash_mounts.specs.txn_laws.Windows.{HasEndingWindow, RecoversWithin, lap_behind, next_lap_in}
+use Rattle.crash_mounts.specs.txn_mount.Mountable.{IsFar}
+use Rattle.crash_mounts.specs.txn_state.States.{facts_of}
+use Rattle.crash_mounts.specs.txn_core.Seen.{Seen}
 use Rattle.txn_close.specs.declared.fault.CloseFault.{CloseFault}
 use Rattle.txn_close.specs.Rests.{stopped_facts}
 use Rattle.txn_close.specs.Passing.{Spares}
 use Rattle.txn_close.specs.Ends.{Closes}
 use Rattle.txn_close.proofs.Passing.{here}
-use Rattle.found_stays.specs.Found.{HasFirst, StaysFirst, BearsFirst}
-use Rattle.member_states.specs.Members.{VolumeBase}
+use Rattle.resting_states.specs.found_stays.Found.{HasFirst, StaysFirst, BearsFirst}
+use Rattle.crash_mounts.specs.member_states.Members.{VolumeBase}
 use Rattle.crash_mounts.specs.Mounting.{base_behind, CrashesMount}
 use Rattle.resting_states.proofs.Finding.{image_bears}
 use Rattle.resting_states.proofs.Recovering.{since_counted}

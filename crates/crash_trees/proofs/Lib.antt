@@ -1,3 +1,4 @@
+pub use Rattle.txn_close.proofs as txn_close
 pub mod Reading
 pub mod Claiming
 pub mod Starting

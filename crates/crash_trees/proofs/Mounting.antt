@@ -9,21 +9,21 @@ use Rattle.record_model.proofs.Answering.{needs_from_ok}
 use Rattle.sector_device.specs.Disks.{Disk, MayLeave}
 use Rattle.sector_device.specs.Moments.{Changes, MayLeaveNow, LeftSince}
 use Rattle.file_tree.specs.declared.tree.Tree.{Tree}
-use Rattle.map_change.specs.Parts.{MapParts}
-use Rattle.plan_model.proofs.Drafting.{per_is}
-use Rattle.state_blocks.specs.Needing.{NeededIsAll}
+use Rattle.crash_mounts.specs.map_change.Parts.{MapParts}
+use Rattle.crash_mounts.proofs.plan_model.Drafting.{per_is}
+use Rattle.crash_mounts.specs.state_blocks.Needing.{NeededIsAll}
 use Rattle.log_page.specs.declared.places.LogPlace.{LogPlace}
-use Rattle.image_open.specs.Writing.{found_by}
-use Rattle.mount_laws.specs.Laws.{MountedByRecord}
-use Rattle.volume_mount.specs.Mounts.{MountedVolume, mounted_in, mounted_of}
+use Rattle.crash_mounts.specs.image_open.Writing.{found_by}
+use Rattle.crash_mounts.specs.mount_laws.Laws.{MountedByRecord}
+use Rattle.crash_mounts.specs.volume_mount.Mounts.{MountedVolume, mounted_in, mounted_of}
 use Rattle.store_claims.specs.Windows.{StoreWindow}
 use Rattle.flush_policy.specs.declared.facts.StoreStep.{StoreStep}
-use Rattle.txn_model.specs.Values.{StoreFacts, is_own, own_of}
-use Rattle.txn_laws.specs.Laws.{WindowsTell}
-use Rattle.txn_laws.specs.Windows.{HasWindow, RecoversWithin, During, Simulates, lap_behind, next_lap_in}
-use Rattle.txn_mount.specs.Mountable.{IsFar}
-use Rattle.txn_core.specs.Steps.{AfterTurn}
-use Rattle.found_stays.specs.Found.{HasFirst, BearsFirst, StaysOver}
+use Rattle.crash_mounts.specs.txn_model.Values.{StoreFacts, is_own, own_of}
+use Rattle.crash_mounts.specs.txn_laws.Laws.{WindowsTell}
+use Rattle.crash_mounts.specs.txn_laws.Windows.{HasWindow, RecoversWithin, During, Simulates, lap_behind, next_lap_in}
+use Rattle.crash_mounts.specs.txn_mount.Mountable.{IsFar}
+use Rattle.crash_mounts.specs.txn_core.Steps.{AfterTurn}
+use Rattle.resting_states.specs.found_stays.Found.{HasFirst, BearsFirst, StaysOver}
 use Rattle.crash_mounts.specs.Mounting.{base_behind, IsLeftBy, MountsAsState, CrashesMount}
 use Rattle.resting_states.proofs.Finding.{image_bears}
 use Rattle.resting_states.proofs.Recovering.{since_counted}

@@ -12,28 +12,28 @@ use Rattle.block_view.specs.Changes.{content_after}
 use Rattle.volume_model.specs.Volumes.{Volume}
 use Rattle.volume_state.specs.Trees.{tree_of}
 use Rattle.stream_laws.specs.Sharing.{stream_at, runs_in}
-use Rattle.map_change.specs.Parts.{MapParts, map_of}
-use Rattle.plan_owners.specs.Agreeing.{log_key}
-use Rattle.plan_owners.specs.States.{Stands}
-use Rattle.state_blocks.specs.Needing.{NeededIsAll}
+use Rattle.crash_mounts.specs.map_change.Parts.{MapParts, map_of}
+use Rattle.crash_mounts.specs.plan_owners.Agreeing.{log_key}
+use Rattle.crash_mounts.specs.plan_owners.States.{Stands}
+use Rattle.crash_mounts.specs.state_blocks.Needing.{NeededIsAll}
 use Rattle.log_page.specs.declared.places.LogPlace.{LogPlace}
 use Rattle.log_reading.specs.Rings.{IsRingPlace}
-use Rattle.image_open.specs.LogPlaces.{LieAlike}
-use Rattle.volume_mount.specs.Mounts.{MountedVolume}
+use Rattle.crash_mounts.specs.image_open.LogPlaces.{LieAlike}
+use Rattle.crash_mounts.specs.volume_mount.Mounts.{MountedVolume}
 use Rattle.store_claims.specs.Windows.{StoreWindow}
-use Rattle.txn_model.specs.Values.{StoreFacts}
-use Rattle.txn_state.specs.States.{StateOf, facts_of}
-use Rattle.txn_core.specs.Views.{present_on}
-use Rattle.state_store.specs.declared.fault.PutFault.{PutFault}
-use Rattle.state_store.specs.Volumes.{geometry_of}
-use Rattle.state_store.specs.Changes.{MayLog, LeadsOn}
-use Rattle.state_store.specs.Windows.{AfterPut, StaysWindow, AfterPutting}
-use Rattle.state_store.specs.Puts.{PutsOver}
-use Rattle.state_store.proofs.Following.{next_map}
-use Rattle.state_store.proofs.Sparing.{place_stays}
-use Rattle.member_states.specs.Members.{VolumeBase, MemberIs}
-use Rattle.member_states.proofs.Putting.{one_volume}
-use Rattle.volume_mount.specs.Welcome.{IsWelcome}
+use Rattle.crash_mounts.specs.txn_model.Values.{StoreFacts}
+use Rattle.crash_mounts.specs.txn_state.States.{StateOf, facts_of}
+use Rattle.crash_mounts.specs.txn_core.Views.{present_on}
+use Rattle.crash_mounts.specs.state_store.declared.fault.PutFault.{PutFault}
+use Rattle.crash_mounts.specs.state_store.Volumes.{geometry_of}
+use Rattle.crash_mounts.specs.state_store.Changes.{MayLog, LeadsOn}
+use Rattle.crash_mounts.specs.state_store.Windows.{AfterPut, StaysWindow, AfterPutting}
+use Rattle.crash_mounts.specs.state_store.Puts.{PutsOver}
+use Rattle.crash_mounts.proofs.state_store.Following.{next_map}
+use Rattle.crash_mounts.proofs.state_store.Sparing.{place_stays}
+use Rattle.crash_mounts.specs.member_states.Members.{VolumeBase, MemberIs}
+use Rattle.crash_mounts.proofs.member_states.Putting.{one_volume}
+use Rattle.crash_mounts.specs.volume_mount.Welcome.{IsWelcome}
 use Rattle.crash_mounts.specs.Mounting.{base_behind}
 use Rattle.resting_states.specs.Resting.{Rests}
 use Rattle.resting_states.specs.Puts.{AreAsked, PutsRest}

@@ -12,24 +12,24 @@ use Rattle.state_model.specs.declared.geometry.Geometry.{Geometry}
 use Rattle.volume_model.specs.Volumes.{Volume}
 use Rattle.volume_state.specs.Trees.{tree_of}
 use Rattle.stream_laws.specs.Sharing.{stream_at, runs_in}
-use Rattle.map_change.specs.Parts.{MapParts}
-use Rattle.plan_owners.specs.Agreeing.{log_key}
-use Rattle.plan_owners.specs.States.{Stands}
-use Rattle.state_blocks.specs.Needing.{IsNeeded, AgreeOnNeeded, NeededIsAll}
+use Rattle.crash_mounts.specs.map_change.Parts.{MapParts}
+use Rattle.crash_mounts.specs.plan_owners.Agreeing.{log_key}
+use Rattle.crash_mounts.specs.plan_owners.States.{Stands}
+use Rattle.crash_mounts.specs.state_blocks.Needing.{IsNeeded, AgreeOnNeeded, NeededIsAll}
 use Rattle.log_page.specs.declared.places.LogPlace.{LogPlace}
-use Rattle.image_open.specs.Writing.{found_by}
-use Rattle.volume_mount.specs.Mounts.{MountedVolume, has_no_journal}
+use Rattle.crash_mounts.specs.image_open.Writing.{found_by}
+use Rattle.crash_mounts.specs.volume_mount.Mounts.{MountedVolume, has_no_journal}
 use Rattle.store_model.specs.Volumes.{is_known}
 use Rattle.store_claims.specs.Windows.{StoreWindow}
-use Rattle.txn_model.specs.Values.{StoreFacts, is_own, own_of}
-use Rattle.txn_laws.specs.Windows.{IsShown}
-use Rattle.txn_laws.proofs.Showing.{present_shown}
-use Rattle.txn_core.specs.Views.{present_on}
-use Rattle.state_store.specs.Volumes.{geometry_of}
-use Rattle.state_store.proofs.Windowed.{newest_is_present}
-use Rattle.member_states.specs.Members.{VolumeBase, IsSafe, MemberIs}
-use Rattle.member_states.proofs.Putting.{one_volume}
-use Rattle.volume_mount.specs.Welcome.{IsWelcome}
+use Rattle.crash_mounts.specs.txn_model.Values.{StoreFacts, is_own, own_of}
+use Rattle.crash_mounts.specs.txn_laws.Windows.{IsShown}
+use Rattle.crash_mounts.proofs.txn_laws.Showing.{present_shown}
+use Rattle.crash_mounts.specs.txn_core.Views.{present_on}
+use Rattle.crash_mounts.specs.state_store.Volumes.{geometry_of}
+use Rattle.crash_mounts.proofs.state_store.Windowed.{newest_is_present}
+use Rattle.crash_mounts.specs.member_states.Members.{VolumeBase, IsSafe, MemberIs}
+use Rattle.crash_mounts.proofs.member_states.Putting.{one_volume}
+use Rattle.crash_mounts.specs.volume_mount.Welcome.{IsWelcome}
 use Rattle.crash_mounts.specs.Mounting.{base_behind}
 use Rattle.resting_states.specs.Resting.{base_from, Rests}
 use Rattle.crash_trees.specs.Trees.{StandsForTree, AreTrees, IsMountedOn, HoldsTrees}

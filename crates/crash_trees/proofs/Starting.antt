@@ -5,11 +5,11 @@ use Rattle.disk_model.specs.Sectors.{sector_of}
 use Rattle.sector_device.specs.Moments.{Changes}
 use Rattle.file_tree.specs.declared.tree.Tree.{Tree}
 use Rattle.volume_state.specs.Trees.{tree_of}
-use Rattle.map_change.specs.Parts.{MapParts}
-use Rattle.state_blocks.specs.Needing.{NeededIsAll}
-use Rattle.volume_mount.specs.Mounts.{MountedVolume}
-use Rattle.txn_state.specs.States.{StateOf, facts_of}
-use Rattle.txn_core.specs.Views.{present_on}
+use Rattle.crash_mounts.specs.map_change.Parts.{MapParts}
+use Rattle.crash_mounts.specs.state_blocks.Needing.{NeededIsAll}
+use Rattle.crash_mounts.specs.volume_mount.Mounts.{MountedVolume}
+use Rattle.crash_mounts.specs.txn_state.States.{StateOf, facts_of}
+use Rattle.crash_mounts.specs.txn_core.Views.{present_on}
 use Rattle.crash_mounts.specs.Mounting.{base_behind}
 use Rattle.resting_states.specs.Resting.{RestsBy}
 use Rattle.resting_states.specs.Starts.{IsAlone, StartsRest}

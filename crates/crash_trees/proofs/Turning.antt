@@ -8,22 +8,22 @@ use Rattle.sector_device.specs.Moments.{Changes}
 use Rattle.file_tree.specs.declared.tree.Tree.{Tree}
 use Rattle.volume_model.specs.Indexes.{void_block}
 use Rattle.volume_model.specs.Volumes.{Volume}
-use Rattle.map_change.specs.Parts.{MapParts}
-use Rattle.state_blocks.specs.Needing.{AgreeOnNeeded, NeededIsAll}
+use Rattle.crash_mounts.specs.map_change.Parts.{MapParts}
+use Rattle.crash_mounts.specs.state_blocks.Needing.{AgreeOnNeeded, NeededIsAll}
 use Rattle.log_page.specs.declared.places.LogPlace.{LogPlace}
 use Rattle.log_reading.specs.Rings.{IsRingPlace}
-use Rattle.image_open.specs.LogPlaces.{LieAlike}
-use Rattle.volume_mount.specs.Mounts.{MountedVolume}
+use Rattle.crash_mounts.specs.image_open.LogPlaces.{LieAlike}
+use Rattle.crash_mounts.specs.volume_mount.Mounts.{MountedVolume}
 use Rattle.store_claims.specs.Windows.{StoreWindow}
 use Rattle.flush_policy.specs.declared.facts.StoreStep.{StoreStep}
 use Rattle.flush_policy.specs.declared.facts.StoreStep.TheVariants.{SealPage, WritePage, SyncDevice, WriteOut, BeginCheckpoint, WriteRestart}
-use Rattle.txn_model.specs.Values.{StoreFacts}
-use Rattle.txn_laws.specs.Windows.{AfterWrite, MovesTo}
-use Rattle.txn_state.specs.States.{facts_of}
-use Rattle.txn_core.specs.Seen.{Seen}
-use Rattle.txn_core.specs.Steps.{AfterTurn}
-use Rattle.member_states.specs.Members.{VolumeBase}
-use Rattle.member_states.proofs.Staying.{kept}
+use Rattle.crash_mounts.specs.txn_model.Values.{StoreFacts}
+use Rattle.crash_mounts.specs.txn_laws.Windows.{AfterWrite, MovesTo}
+use Rattle.crash_mounts.specs.txn_state.States.{facts_of}
+use Rattle.crash_mounts.specs.txn_core.Seen.{Seen}
+use Rattle.crash_mounts.specs.txn_core.Steps.{AfterTurn}
+use Rattle.crash_mounts.specs.member_states.Members.{VolumeBase}
+use Rattle.crash_mounts.proofs.member_states.Staying.{kept}
 use Rattle.crash_mounts.specs.Mounting.{base_behind}
 use Rattle.resting_states.specs.Resting.{RestsOn}
 use Rattle.resting_states.specs.Turns.{IsTurned, TurnsRest}

@@ -2,14 +2,14 @@
 use Rattle.std.specs.Prelude.{◌≡◌, ◌⊎◌, ℕ, ◌-◌, ◌≤◌, List, OnOk, IfErr, Option, Result}
 use Rattle.sector_device.specs.Moments.{Changes, MayLeaveNow, LeftSince}
 use Rattle.file_tree.specs.declared.tree.Tree.{Tree}
-use Rattle.map_change.specs.Parts.{MapParts}
-use Rattle.volume_mount.specs.Mounts.{MountedVolume}
+use Rattle.crash_mounts.specs.map_change.Parts.{MapParts}
+use Rattle.crash_mounts.specs.volume_mount.Mounts.{MountedVolume}
 use Rattle.store_claims.specs.Windows.{StoreWindow}
-use Rattle.txn_model.specs.Values.{StoreFacts}
-use Rattle.txn_laws.specs.Windows.{lap_behind}
-use Rattle.txn_mount.specs.Mountable.{IsFar}
-use Rattle.txn_state.specs.States.{facts_of}
-use Rattle.txn_core.specs.Seen.{Seen}
+use Rattle.crash_mounts.specs.txn_model.Values.{StoreFacts}
+use Rattle.crash_mounts.specs.txn_laws.Windows.{lap_behind}
+use Rattle.crash_mounts.specs.txn_mount.Mountable.{IsFar}
+use Rattle.crash_mounts.specs.txn_state.States.{facts_of}
+use Rattle.crash_mounts.specs.txn_core.Seen.{Seen}
 use Rattle.txn_close.specs.declared.fault.CloseFault.{CloseFault}
 use Rattle.txn_close.specs.declared.fault.CloseFault.TheVariants.{Unmarked}
 use Rattle.txn_close.specs.Ends.{Closes}

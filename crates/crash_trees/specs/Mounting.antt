@@ -5,18 +5,18 @@ use Rattle.disk_model.specs.declared.block.Change.{Change}
 use Rattle.disk_model.specs.Sectors.{sector_of}
 use Rattle.sector_device.specs.Moments.{Changes, MayLeaveNow, LeftSince}
 use Rattle.file_tree.specs.declared.tree.Tree.{Tree}
-use Rattle.map_change.specs.Parts.{MapParts}
-use Rattle.volume_mount.specs.Mounts.{MountedVolume, tree_in, mounted_of}
+use Rattle.crash_mounts.specs.map_change.Parts.{MapParts}
+use Rattle.crash_mounts.specs.volume_mount.Mounts.{MountedVolume, tree_in, mounted_of}
 use Rattle.store_claims.specs.Windows.{StoreWindow}
 use Rattle.flush_policy.specs.declared.facts.StoreStep.{StoreStep}
-use Rattle.txn_model.specs.Values.{StoreFacts}
-use Rattle.txn_laws.specs.Windows.{Simulates, lap_behind}
-use Rattle.txn_mount.specs.Mountable.{IsFar}
-use Rattle.txn_state.specs.States.{StateOf}
-use Rattle.txn_core.specs.Steps.{AfterTurn}
-use Rattle.state_store.specs.declared.fault.PutFault.{PutFault}
-use Rattle.state_store.specs.Puts.{PutsOver}
-use Rattle.found_stays.specs.Found.{StaysOver}
+use Rattle.crash_mounts.specs.txn_model.Values.{StoreFacts}
+use Rattle.crash_mounts.specs.txn_laws.Windows.{Simulates, lap_behind}
+use Rattle.crash_mounts.specs.txn_mount.Mountable.{IsFar}
+use Rattle.crash_mounts.specs.txn_state.States.{StateOf}
+use Rattle.crash_mounts.specs.txn_core.Steps.{AfterTurn}
+use Rattle.crash_mounts.specs.state_store.declared.fault.PutFault.{PutFault}
+use Rattle.crash_mounts.specs.state_store.Puts.{PutsOver}
+use Rattle.resting_states.specs.found_stays.Found.{StaysOver}
 use Rattle.crash_trees.specs.Trees.{HoldsTrees}
 
 -- The image mounts, as the tree so many commits back, at most so many.

@@ -9,19 +9,19 @@ use Rattle.block_view.specs.Changes.{content_after}
 use Rattle.volume_model.specs.Owners.{uses}
 use Rattle.volume_state.specs.Trees.{tree_of}
 use Rattle.stream_laws.specs.Sharing.{stream_at, runs_in}
-use Rattle.map_change.specs.Parts.{MapParts}
-use Rattle.plan_owners.specs.Agreeing.{log_key}
-use Rattle.plan_owners.specs.Kinds.{cluster_of}
-use Rattle.volume_mount.specs.Mounts.{MountedVolume}
+use Rattle.crash_mounts.specs.map_change.Parts.{MapParts}
+use Rattle.crash_mounts.specs.plan_owners.Agreeing.{log_key}
+use Rattle.crash_mounts.specs.plan_owners.Kinds.{cluster_of}
+use Rattle.crash_mounts.specs.volume_mount.Mounts.{MountedVolume}
 use Rattle.store_claims.specs.Windows.{StoreWindow}
-use Rattle.txn_model.specs.Values.{StoreFacts}
-use Rattle.txn_state.specs.States.{StateOf, facts_of}
-use Rattle.txn_core.specs.Views.{present_on}
-use Rattle.state_store.specs.declared.fault.PutFault.{PutFault}
-use Rattle.state_store.specs.Changes.{LeadsOn}
-use Rattle.state_store.specs.Windows.{AfterPutting}
-use Rattle.state_store.specs.Puts.{PutsOver}
-use Rattle.volume_mount.specs.Welcome.{IsWelcome}
+use Rattle.crash_mounts.specs.txn_model.Values.{StoreFacts}
+use Rattle.crash_mounts.specs.txn_state.States.{StateOf, facts_of}
+use Rattle.crash_mounts.specs.txn_core.Views.{present_on}
+use Rattle.crash_mounts.specs.state_store.declared.fault.PutFault.{PutFault}
+use Rattle.crash_mounts.specs.state_store.Changes.{LeadsOn}
+use Rattle.crash_mounts.specs.state_store.Windows.{AfterPutting}
+use Rattle.crash_mounts.specs.state_store.Puts.{PutsOver}
+use Rattle.crash_mounts.specs.volume_mount.Welcome.{IsWelcome}
 use Rattle.resting_states.specs.Puts.{AreAsked}
 use Rattle.crash_trees.specs.Trees.{HoldsTrees, HoldsTreesBy}
 

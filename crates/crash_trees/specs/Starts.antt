@@ -4,12 +4,12 @@ use Rattle.disk_model.specs.Sectors.{sector_of}
 use Rattle.sector_device.specs.Moments.{Changes}
 use Rattle.volume_state.specs.Trees.{tree_of}
 use Rattle.stream_laws.specs.Sharing.{stream_at, runs_in}
-use Rattle.map_change.specs.Parts.{MapParts}
-use Rattle.plan_owners.specs.Agreeing.{log_key}
-use Rattle.volume_mount.specs.Mounts.{MountedVolume}
-use Rattle.txn_state.specs.States.{StateOf, facts_of}
-use Rattle.txn_core.specs.Views.{present_on}
-use Rattle.volume_mount.specs.Welcome.{IsWelcome}
+use Rattle.crash_mounts.specs.map_change.Parts.{MapParts}
+use Rattle.crash_mounts.specs.plan_owners.Agreeing.{log_key}
+use Rattle.crash_mounts.specs.volume_mount.Mounts.{MountedVolume}
+use Rattle.crash_mounts.specs.txn_state.States.{StateOf, facts_of}
+use Rattle.crash_mounts.specs.txn_core.Views.{present_on}
+use Rattle.crash_mounts.specs.volume_mount.Welcome.{IsWelcome}
 use Rattle.resting_states.specs.Starts.{BeginsAtRest, IsAlone}
 use Rattle.crash_trees.specs.Trees.{IsMountedOn, HoldsTreesBy}
 

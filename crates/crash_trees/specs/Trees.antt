@@ -9,21 +9,21 @@ use Rattle.volume_model.specs.Volumes.{Volume}
 use Rattle.volume_model.specs.Owners.{uses}
 use Rattle.volume_state.specs.Trees.{tree_of}
 use Rattle.stream_laws.specs.Sharing.{stream_at, runs_in}
-use Rattle.map_change.specs.Parts.{MapParts}
-use Rattle.plan_owners.specs.Agreeing.{log_key}
-use Rattle.plan_owners.specs.Kinds.{cluster_of}
+use Rattle.crash_mounts.specs.map_change.Parts.{MapParts}
+use Rattle.crash_mounts.specs.plan_owners.Agreeing.{log_key}
+use Rattle.crash_mounts.specs.plan_owners.Kinds.{cluster_of}
 use Rattle.log_reading.specs.Rings.{IsRingPlace}
-use Rattle.image_open.specs.LogPlaces.{LieAlike}
-use Rattle.image_open.specs.Writing.{found_by}
-use Rattle.volume_mount.specs.Mounts.{MountedVolume, mounted_of}
+use Rattle.crash_mounts.specs.image_open.LogPlaces.{LieAlike}
+use Rattle.crash_mounts.specs.image_open.Writing.{found_by}
+use Rattle.crash_mounts.specs.volume_mount.Mounts.{MountedVolume, mounted_of}
 use Rattle.store_claims.specs.Claims.{ClaimWindow}
 use Rattle.store_claims.specs.Windows.{StoreWindow}
-use Rattle.txn_model.specs.Values.{StoreFacts}
-use Rattle.txn_state.specs.States.{facts_of}
-use Rattle.txn_core.specs.Seen.{Seen}
-use Rattle.state_store.specs.Volumes.{geometry_of}
-use Rattle.member_states.specs.Members.{VolumeBase, MemberIs}
-use Rattle.volume_mount.specs.Welcome.{IsWelcome}
+use Rattle.crash_mounts.specs.txn_model.Values.{StoreFacts}
+use Rattle.crash_mounts.specs.txn_state.States.{facts_of}
+use Rattle.crash_mounts.specs.txn_core.Seen.{Seen}
+use Rattle.crash_mounts.specs.state_store.Volumes.{geometry_of}
+use Rattle.crash_mounts.specs.member_states.Members.{VolumeBase, MemberIs}
+use Rattle.crash_mounts.specs.volume_mount.Welcome.{IsWelcome}
 use Rattle.crash_mounts.specs.Mounting.{base_behind}
 use Rattle.resting_states.specs.Resting.{Rests}
 

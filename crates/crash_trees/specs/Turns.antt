@@ -4,14 +4,14 @@ use Rattle.host_base.specs.declared.outside.Failed.{Failed}
 use Rattle.disk_model.specs.Sectors.{sector_of}
 use Rattle.sector_device.specs.Moments.{Changes}
 use Rattle.file_tree.specs.declared.tree.Tree.{Tree}
-use Rattle.map_change.specs.Parts.{MapParts}
-use Rattle.volume_mount.specs.Mounts.{MountedVolume}
+use Rattle.crash_mounts.specs.map_change.Parts.{MapParts}
+use Rattle.crash_mounts.specs.volume_mount.Mounts.{MountedVolume}
 use Rattle.store_claims.specs.Windows.{StoreWindow}
 use Rattle.flush_policy.specs.declared.facts.StoreStep.{StoreStep}
-use Rattle.txn_state.specs.States.{facts_of}
-use Rattle.txn_core.specs.Seen.{Seen}
-use Rattle.txn_core.specs.Steps.{AfterTurn}
-use Rattle.found_stays.specs.Found.{StaysOver}
+use Rattle.crash_mounts.specs.txn_state.States.{facts_of}
+use Rattle.crash_mounts.specs.txn_core.Seen.{Seen}
+use Rattle.crash_mounts.specs.txn_core.Steps.{AfterTurn}
+use Rattle.resting_states.specs.found_stays.Found.{StaysOver}
 use Rattle.resting_states.specs.Turns.{IsTurned}
 use Rattle.crash_trees.specs.Trees.{HoldsTrees, HoldsTreesOn}
 

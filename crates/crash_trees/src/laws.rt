@@ -5,12 +5,9 @@ ghost use Rattle.crash_trees.specs.Puts.{TreesPut, TreesShow};
 ghost use Rattle.crash_trees.specs.Starts.{TreesStart};
 ghost use Rattle.crash_trees.specs.Turns.{TreesTurn};
 
-use crash_mounts::crashes_mount;
-use mount_laws::mounted_by_record;
+use crash_mounts::{crashes_mount, endings_tell, mounted_by_record, needed_is_all, windows_tell};
 use resting_states::{puts_rest, starts_rest, turns_rest};
 use sector_device::Device;
-use state_blocks::needed_is_all;
-use txn_laws::{endings_tell, windows_tell};
 
 /// Law: a volume whose store begins over a state that a mount takes holds the tree of this state.
 pub fn trees_start()

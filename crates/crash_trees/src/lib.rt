@@ -10,3 +10,5 @@ mod laws;
 pub use laws::{
     close_leaves, trees_close, trees_mount, trees_put, trees_show, trees_start, trees_turn,
 };
+pub use resting_states::steps_stay;
+pub use txn_close::{CloseFault, close, has_next};

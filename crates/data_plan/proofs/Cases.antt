@@ -4,37 +4,37 @@ use Rattle.std.specs.Prelude.{not, count_by, nat_le, ◌==◌, ◌&&◌, ◌||�
 use Rattle.std.proofs.lemmas.Bool.{cases_lt, lt-ltb, le-ltb, lt-leb, le-leb}
 use Rattle.std.proofs.lemmas.Bool.Decides.{nat_tests}
 use Rattle.std.proofs.lemmas.List.{take_all}
-use Rattle.disk_model.specs.Bytes.{up8}
-use Rattle.record_model.specs.declared.attribute.Attr.{Attr}
-use Rattle.record_model.specs.declared.runs.Run.{Run}
-use Rattle.record_model.specs.Attributes.{is_compressed_or_sparse}
-use Rattle.record_model.specs.Constants.{data_type}
-use Rattle.record_model.specs.Pairs.{pairs_of}
-use Rattle.record_model.specs.Records.{Record, used_of}
-use Rattle.record_writer.specs.Edits.{whole_length}
-use Rattle.file_tree.specs.declared.node.Node.{Node}
-use Rattle.state_model.specs.declared.stream.Extents.{Extents}
-use Rattle.state_model.specs.declared.stream.Stream.{Stream}
-use Rattle.state_model.specs.declared.stream.Stream.TheVariants.{Held, Placed}
-use Rattle.state_model.specs.Loads.{total_clusters}
-use Rattle.state_model.specs.Streams.{attributes_of}
-use Rattle.tree_model.specs.declared.script.Op.{Op}
-use Rattle.tree_model.specs.declared.reply.Reply.{Reply}
-use Rattle.tree_model.specs.declared.reply.Reply.TheVariants.{RecordFull}
-use Rattle.tree_model.specs.Needs.{size_after, shrinks}
-use Rattle.tree_model.specs.Effects.{clusters_after}
-use Rattle.space_model.specs.Choosing.{with_run, run_at, behind, chosen_anywhere, chosen, with_runs}
-use Rattle.plan_space.specs.Choices.{TakesFirst}
-use Rattle.stream_laws.specs.Sharing.{runs_in}
-use Rattle.stream_runs.specs.Runs.{merged, grown, front, last_cluster}
-use Rattle.record_streams.specs.Placing.{placed_record}
-use Rattle.resized_streams.specs.declared.resized.Resized.{Resized}
-use Rattle.resized_streams.specs.Resizing.{lengthened, IsGrown}
-use Rattle.step_model.specs.Placing.{Growth, more_of, runs_after}
-use Rattle.step_model.specs.Used.{used_after, own_attr, value_attr, placed_attr, is_in_record, stays_in}
-use Rattle.step_model.specs.Streams.{Comes, as_value, placed_among, placed_by, in_clusters, comes, wanted_data, is_value_cut, data_comes}
-use Rattle.step_model.specs.Plans.{full_row}
-use Rattle.step_model.proofs.NeverFull.{used_bytes}
+use Rattle.used_laws.specs.disk_model.Bytes.{up8}
+use Rattle.used_laws.specs.record_model.declared.attribute.Attr.{Attr}
+use Rattle.used_laws.specs.record_model.declared.runs.Run.{Run}
+use Rattle.used_laws.specs.record_model.Attributes.{is_compressed_or_sparse}
+use Rattle.used_laws.specs.record_model.Constants.{data_type}
+use Rattle.used_laws.specs.record_model.Pairs.{pairs_of}
+use Rattle.used_laws.specs.record_model.Records.{Record, used_of}
+use Rattle.used_laws.specs.record_writer.Edits.{whole_length}
+use Rattle.used_laws.specs.file_tree.declared.node.Node.{Node}
+use Rattle.used_laws.specs.state_model.declared.stream.Extents.{Extents}
+use Rattle.used_laws.specs.state_model.declared.stream.Stream.{Stream}
+use Rattle.used_laws.specs.state_model.declared.stream.Stream.TheVariants.{Held, Placed}
+use Rattle.used_laws.specs.state_model.Loads.{total_clusters}
+use Rattle.used_laws.specs.state_model.Streams.{attributes_of}
+use Rattle.used_laws.specs.tree_model.declared.script.Op.{Op}
+use Rattle.used_laws.specs.tree_model.declared.reply.Reply.{Reply}
+use Rattle.used_laws.specs.tree_model.declared.reply.Reply.TheVariants.{RecordFull}
+use Rattle.used_laws.specs.tree_model.Needs.{size_after, shrinks}
+use Rattle.used_laws.specs.tree_model.Effects.{clusters_after}
+use Rattle.used_laws.specs.space_model.Choosing.{with_run, run_at, behind, chosen_anywhere, chosen, with_runs}
+use Rattle.used_laws.specs.plan_space.Choices.{TakesFirst}
+use Rattle.used_laws.specs.stream_laws.Sharing.{runs_in}
+use Rattle.used_laws.specs.stream_runs.Runs.{merged, grown, front, last_cluster}
+use Rattle.used_laws.specs.record_streams.Placing.{placed_record}
+use Rattle.used_laws.specs.resized_streams.declared.resized.Resized.{Resized}
+use Rattle.used_laws.specs.resized_streams.Resizing.{lengthened, IsGrown}
+use Rattle.used_laws.specs.step_model.Placing.{Growth, more_of, runs_after}
+use Rattle.used_laws.specs.step_model.Used.{used_after, own_attr, value_attr, placed_attr, is_in_record, stays_in}
+use Rattle.used_laws.specs.step_model.Streams.{Comes, as_value, placed_among, placed_by, in_clusters, comes, wanted_data, is_value_cut, data_comes}
+use Rattle.used_laws.specs.step_model.Plans.{full_row}
+use Rattle.used_laws.proofs.step_model.NeverFull.{used_bytes}
 use Rattle.used_laws.proofs.Lengths.{written_used}
 use Rattle.used_laws.proofs.Beside.{one_more, alike, used}
 use Rattle.data_plan.specs.declared.change.DataChange.{DataChange}

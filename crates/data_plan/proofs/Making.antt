@@ -5,25 +5,25 @@ use Rattle.std.specs.List.{flat_map}
 use Rattle.std.specs.Cmp.Lexicographic.{pointwise}
 use Rattle.std.proofs.lemmas.Bool.Decides.{nat_tests}
 use Rattle.std.proofs.lemmas.List.Elements.{filter-append}
-use Rattle.record_model.specs.declared.attribute.Attr.{Attr}
-use Rattle.record_model.specs.declared.attribute.OwnForm.{OwnForm}
-use Rattle.record_model.specs.Attributes.{is_compressed_or_sparse}
-use Rattle.record_model.specs.Constants.{data_type}
-use Rattle.record_model.specs.Pairs.{pairs_of}
-use Rattle.record_model.specs.Records.{Record, spelled_bytes}
-use Rattle.record_writer.specs.Edits.{whole_length}
-use Rattle.file_tree.specs.declared.node.Node.{Node}
-use Rattle.state_model.specs.declared.stream.Stream.{Stream}
-use Rattle.state_model.specs.declared.stream.Stream.TheVariants.{Held}
-use Rattle.state_model.specs.Streams.{is_attribute_of, sorted_into, attributes_of, attribute_runs, form_stream, joined, stream_of}
-use Rattle.tree_model.specs.declared.script.Op.{Op}
-use Rattle.tree_model.specs.Needs.{clusters_for, size_after, shrinks}
-use Rattle.tree_model.specs.Effects.{clusters_after}
-use Rattle.step_model.specs.Placing.{Growth, runs_after}
-use Rattle.step_model.specs.Used.{is_replaced, used_after, new_attr, first_or, own_attr, value_attr, placed_attr, is_in_record, stays_in}
-use Rattle.step_model.specs.Streams.{Comes, placed_among, wanted_data}
-use Rattle.step_model.specs.Plans.{full_row}
-use Rattle.step_model.proofs.NeverFull.{used_bytes}
+use Rattle.used_laws.specs.record_model.declared.attribute.Attr.{Attr}
+use Rattle.used_laws.specs.record_model.declared.attribute.OwnForm.{OwnForm}
+use Rattle.used_laws.specs.record_model.Attributes.{is_compressed_or_sparse}
+use Rattle.used_laws.specs.record_model.Constants.{data_type}
+use Rattle.used_laws.specs.record_model.Pairs.{pairs_of}
+use Rattle.used_laws.specs.record_model.Records.{Record, spelled_bytes}
+use Rattle.used_laws.specs.record_writer.Edits.{whole_length}
+use Rattle.used_laws.specs.file_tree.declared.node.Node.{Node}
+use Rattle.used_laws.specs.state_model.declared.stream.Stream.{Stream}
+use Rattle.used_laws.specs.state_model.declared.stream.Stream.TheVariants.{Held}
+use Rattle.used_laws.specs.state_model.Streams.{is_attribute_of, sorted_into, attributes_of, attribute_runs, form_stream, joined, stream_of}
+use Rattle.used_laws.specs.tree_model.declared.script.Op.{Op}
+use Rattle.used_laws.specs.tree_model.Needs.{clusters_for, size_after, shrinks}
+use Rattle.used_laws.specs.tree_model.Effects.{clusters_after}
+use Rattle.used_laws.specs.step_model.Placing.{Growth, runs_after}
+use Rattle.used_laws.specs.step_model.Used.{is_replaced, used_after, new_attr, first_or, own_attr, value_attr, placed_attr, is_in_record, stays_in}
+use Rattle.used_laws.specs.step_model.Streams.{Comes, placed_among, wanted_data}
+use Rattle.used_laws.specs.step_model.Plans.{full_row}
+use Rattle.used_laws.proofs.step_model.NeverFull.{used_bytes}
 use Rattle.used_laws.proofs.Lengths.{filter_yes, filter_no}
 use Rattle.used_laws.proofs.Beside.{one_more, alike, none_sorted}
 use Rattle.data_plan.specs.Changes.{data_in, growth_of, row_of}

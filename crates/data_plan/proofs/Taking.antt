@@ -4,37 +4,37 @@ use Rattle.std.specs.Prelude.{not, count_by, All}
 use Rattle.std.specs.List.{AllByRecursion}
 use Rattle.std.proofs.lemmas.Bool.{cases_lt}
 use Rattle.std.proofs.lemmas.Bool.Decides.{nat_tests}
-use Rattle.record_model.specs.declared.attribute.Attr.{Attr}
-use Rattle.record_model.specs.declared.runs.Run.{Run}
-use Rattle.record_model.specs.Constants.{data_type}
-use Rattle.record_model.specs.Records.{Record, used_of}
-use Rattle.file_tree.specs.declared.node.Node.{Node}
-use Rattle.state_model.specs.declared.stream.Extents.{Extents}
-use Rattle.state_model.specs.declared.stream.Stream.{Stream}
-use Rattle.state_model.specs.declared.stream.Stream.TheVariants.{Held, Placed}
-use Rattle.state_model.specs.Loads.{total_clusters}
-use Rattle.state_model.specs.Streams.{first_vcn, attributes_of, joined, stream_of}
-use Rattle.volume_model.specs.Volumes.{size_or}
-use Rattle.volume_model.specs.Nodes.{clusters_or}
-use Rattle.tree_model.specs.declared.script.Op.{Op}
-use Rattle.tree_model.specs.declared.script.Op.TheVariants as op
-use Rattle.tree_model.specs.declared.reply.Reply.{Reply}
-use Rattle.tree_model.specs.declared.reply.Reply.TheVariants.{RecordFull}
-use Rattle.tree_model.specs.Needs.{clusters_for, size_after, shrinks}
-use Rattle.tree_model.specs.Effects.{valid_after, clusters_after}
-use Rattle.space_model.specs.Choosing.{chosen, with_runs}
-use Rattle.plan_space.specs.Choices.{TakesFirst}
-use Rattle.stream_runs.specs.Runs.{merged, front, last_cluster}
-use Rattle.record_streams.specs.Placing.{placed_record}
-use Rattle.record_values.specs.Values.{valued_record}
-use Rattle.resized_streams.specs.declared.resized.Resized.{Resized}
-use Rattle.resized_streams.specs.Resizing.{lengthened, shortened, with_sizes, unplaced, IsGrown, IsCut, IsSized}
-use Rattle.draft_records.specs.Records.{written_bytes}
-use Rattle.step_model.specs.Placing.{Growth, more_of, runs_after}
-use Rattle.step_model.specs.Used.{used_after, own_attr, value_attr, placed_attr}
-use Rattle.step_model.specs.Streams.{Comes, placed_among, placed_by, wanted_data, data_comes}
-use Rattle.step_model.specs.Plans.{full_row}
-use Rattle.step_model.proofs.NeverFull.{used_bytes}
+use Rattle.used_laws.specs.record_model.declared.attribute.Attr.{Attr}
+use Rattle.used_laws.specs.record_model.declared.runs.Run.{Run}
+use Rattle.used_laws.specs.record_model.Constants.{data_type}
+use Rattle.used_laws.specs.record_model.Records.{Record, used_of}
+use Rattle.used_laws.specs.file_tree.declared.node.Node.{Node}
+use Rattle.used_laws.specs.state_model.declared.stream.Extents.{Extents}
+use Rattle.used_laws.specs.state_model.declared.stream.Stream.{Stream}
+use Rattle.used_laws.specs.state_model.declared.stream.Stream.TheVariants.{Held, Placed}
+use Rattle.used_laws.specs.state_model.Loads.{total_clusters}
+use Rattle.used_laws.specs.state_model.Streams.{first_vcn, attributes_of, joined, stream_of}
+use Rattle.used_laws.specs.volume_model.Volumes.{size_or}
+use Rattle.used_laws.specs.volume_model.Nodes.{clusters_or}
+use Rattle.used_laws.specs.tree_model.declared.script.Op.{Op}
+use Rattle.used_laws.specs.tree_model.declared.script.Op.TheVariants as op
+use Rattle.used_laws.specs.tree_model.declared.reply.Reply.{Reply}
+use Rattle.used_laws.specs.tree_model.declared.reply.Reply.TheVariants.{RecordFull}
+use Rattle.used_laws.specs.tree_model.Needs.{clusters_for, size_after, shrinks}
+use Rattle.used_laws.specs.tree_model.Effects.{valid_after, clusters_after}
+use Rattle.used_laws.specs.space_model.Choosing.{chosen, with_runs}
+use Rattle.used_laws.specs.plan_space.Choices.{TakesFirst}
+use Rattle.used_laws.specs.stream_runs.Runs.{merged, front, last_cluster}
+use Rattle.used_laws.specs.record_streams.Placing.{placed_record}
+use Rattle.used_laws.specs.record_values.Values.{valued_record}
+use Rattle.used_laws.specs.resized_streams.declared.resized.Resized.{Resized}
+use Rattle.used_laws.specs.resized_streams.Resizing.{lengthened, shortened, with_sizes, unplaced, IsGrown, IsCut, IsSized}
+use Rattle.used_laws.specs.draft_records.Records.{written_bytes}
+use Rattle.used_laws.specs.step_model.Placing.{Growth, more_of, runs_after}
+use Rattle.used_laws.specs.step_model.Used.{used_after, own_attr, value_attr, placed_attr}
+use Rattle.used_laws.specs.step_model.Streams.{Comes, placed_among, placed_by, wanted_data, data_comes}
+use Rattle.used_laws.specs.step_model.Plans.{full_row}
+use Rattle.used_laws.proofs.step_model.NeverFull.{used_bytes}
 use Rattle.used_laws.specs.Laws.{HasBytes, IsReadAttr}
 use Rattle.used_laws.proofs.Lengths.{written_used}
 use Rattle.used_laws.proofs.Beside.{used}

@@ -1,33 +1,33 @@
 -- What comes of a file's unnamed data, in the words of a step.
 use Rattle.std.specs.Prelude.{◌≡◌, ⊤, ℕ, ◌+◌, ◌^◌, ◌<◌, ◌≤◌, Bool, true, false, not, List, [], ◌∷◌, All, length, count_by, Option, Some, None, Result, Ok, Err, IfSome, IfOk, OnErr}
-use Rattle.record_model.specs.declared.attribute.Attr.{Attr}
-use Rattle.record_model.specs.Constants.{data_type}
-use Rattle.record_model.specs.Pairs.{cluster_limit, HasSpelling}
-use Rattle.record_model.specs.Records.{Record}
-use Rattle.file_tree.specs.declared.node.Node.{Node}
-use Rattle.state_model.specs.declared.stream.Extents.{Extents}
-use Rattle.state_model.specs.declared.stream.Stream.{Stream}
-use Rattle.state_model.specs.declared.stream.Stream.TheVariants.{Held, Placed}
-use Rattle.state_model.specs.Loads.{total_clusters, has_all_pairs}
-use Rattle.state_model.specs.Streams.{first_vcn, attributes_of, stream_of}
-use Rattle.volume_model.specs.Volumes.{size_or}
-use Rattle.volume_model.specs.Nodes.{valid_or, clusters_or}
-use Rattle.tree_model.specs.declared.script.Op.{Op}
-use Rattle.tree_model.specs.declared.reply.Reply.{Reply}
-use Rattle.tree_model.specs.Needs.{clusters_for, size_after, shrinks}
-use Rattle.tree_model.specs.Effects.{valid_after, clusters_after}
-use Rattle.space_model.specs.Choosing.{with_runs}
-use Rattle.plan_space.specs.Choices.{TakesFirst}
-use Rattle.stream_runs.specs.Runs.{last_cluster, IsNear}
-use Rattle.record_streams.specs.Fitting.{FitsButRoom}
-use Rattle.record_values.specs.Values.{valued_record}
-use Rattle.resized_streams.specs.declared.resized.Resized.{Resized}
-use Rattle.resized_streams.specs.Resizing.{unplaced, IsGrown, IsCut, IsSized}
-use Rattle.draft_records.specs.Records.{written_bytes}
-use Rattle.step_model.specs.Placing.{Growth, more_of, runs_after}
-use Rattle.step_model.specs.Used.{used_after, own_attr, value_attr}
-use Rattle.step_model.specs.Streams.{data_comes, one_change}
-use Rattle.step_model.specs.Plans.{full_row, used_in}
+use Rattle.used_laws.specs.record_model.declared.attribute.Attr.{Attr}
+use Rattle.used_laws.specs.record_model.Constants.{data_type}
+use Rattle.used_laws.specs.record_model.Pairs.{cluster_limit, HasSpelling}
+use Rattle.used_laws.specs.record_model.Records.{Record}
+use Rattle.used_laws.specs.file_tree.declared.node.Node.{Node}
+use Rattle.used_laws.specs.state_model.declared.stream.Extents.{Extents}
+use Rattle.used_laws.specs.state_model.declared.stream.Stream.{Stream}
+use Rattle.used_laws.specs.state_model.declared.stream.Stream.TheVariants.{Held, Placed}
+use Rattle.used_laws.specs.state_model.Loads.{total_clusters, has_all_pairs}
+use Rattle.used_laws.specs.state_model.Streams.{first_vcn, attributes_of, stream_of}
+use Rattle.used_laws.specs.volume_model.Volumes.{size_or}
+use Rattle.used_laws.specs.volume_model.Nodes.{valid_or, clusters_or}
+use Rattle.used_laws.specs.tree_model.declared.script.Op.{Op}
+use Rattle.used_laws.specs.tree_model.declared.reply.Reply.{Reply}
+use Rattle.used_laws.specs.tree_model.Needs.{clusters_for, size_after, shrinks}
+use Rattle.used_laws.specs.tree_model.Effects.{valid_after, clusters_after}
+use Rattle.used_laws.specs.space_model.Choosing.{with_runs}
+use Rattle.used_laws.specs.plan_space.Choices.{TakesFirst}
+use Rattle.used_laws.specs.stream_runs.Runs.{last_cluster, IsNear}
+use Rattle.used_laws.specs.record_streams.Fitting.{FitsButRoom}
+use Rattle.used_laws.specs.record_values.Values.{valued_record}
+use Rattle.used_laws.specs.resized_streams.declared.resized.Resized.{Resized}
+use Rattle.used_laws.specs.resized_streams.Resizing.{unplaced, IsGrown, IsCut, IsSized}
+use Rattle.used_laws.specs.draft_records.Records.{written_bytes}
+use Rattle.used_laws.specs.step_model.Placing.{Growth, more_of, runs_after}
+use Rattle.used_laws.specs.step_model.Used.{used_after, own_attr, value_attr}
+use Rattle.used_laws.specs.step_model.Streams.{data_comes, one_change}
+use Rattle.used_laws.specs.step_model.Plans.{full_row, used_in}
 use Rattle.data_plan.specs.declared.change.DataChange.{DataChange}
 use Rattle.data_plan.specs.declared.change.DataChange.TheVariants as change
 use Rattle.data_plan.specs.declared.fault.DataFault.{DataFault}

@@ -1,9 +1,9 @@
 -- Why nothing comes of a file's unnamed data.
 use Rattle.std.specs.Prelude.{◌≡◌, ⊤, ℕ, Option, Some, None, Result, Ok, Err}
-use Rattle.plan_space.specs.declared.fault.SpaceFault.{SpaceFault}
-use Rattle.plan_space.specs.declared.fault.SpaceFault.TheVariants as space
-use Rattle.tree_model.specs.declared.reply.Reply.{Reply}
-use Rattle.tree_model.specs.declared.reply.Reply.TheVariants.{RecordFull}
+use Rattle.used_laws.specs.plan_space.declared.fault.SpaceFault.{SpaceFault}
+use Rattle.used_laws.specs.plan_space.declared.fault.SpaceFault.TheVariants as space
+use Rattle.used_laws.specs.tree_model.declared.reply.Reply.{Reply}
+use Rattle.used_laws.specs.tree_model.declared.reply.Reply.TheVariants.{RecordFull}
 use Rattle.data_plan.specs.declared.fault.DataFault.{DataFault}
 use Rattle.data_plan.specs.declared.fault.DataFault.TheVariants.{Full, Short, Memory}
 

@@ -1,12 +1,12 @@
 -- A file that had no unnamed data, and gets it.
 use Rattle.std.specs.Prelude.{◌≡◌, ℕ, Bool, List, [], ◌∷◌, ◌++◌}
-use Rattle.record_model.specs.declared.attribute.Attr.{Attr}
-use Rattle.record_model.specs.declared.attribute.OwnForm.TheVariants.{Resident}
-use Rattle.record_model.specs.Constants.{data_type}
-use Rattle.record_model.specs.Records.{Record}
-use Rattle.file_tree.specs.declared.node.Node.{Node}
-use Rattle.state_model.specs.Streams.{attributes_of}
-use Rattle.tree_model.specs.declared.script.Op.{Op}
+use Rattle.used_laws.specs.record_model.declared.attribute.Attr.{Attr}
+use Rattle.used_laws.specs.record_model.declared.attribute.OwnForm.TheVariants.{Resident}
+use Rattle.used_laws.specs.record_model.Constants.{data_type}
+use Rattle.used_laws.specs.record_model.Records.{Record}
+use Rattle.used_laws.specs.file_tree.declared.node.Node.{Node}
+use Rattle.used_laws.specs.state_model.Streams.{attributes_of}
+use Rattle.used_laws.specs.tree_model.declared.script.Op.{Op}
 use Rattle.data_plan.specs.Changes.{growth_of, row_of}
 
 -- unnamed data without bytes, as it is made

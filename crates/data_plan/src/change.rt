@@ -1,4 +1,4 @@
-use resized_streams::Resized;
+use used_laws::Resized;
 
 /// What comes of the unnamed data of a file that is written or cut.
 #[derive(Debug, Drop)]

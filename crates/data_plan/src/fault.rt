@@ -1,7 +1,7 @@
 use host_base::Memory;
-use plan_space::SpaceFault;
 use std::alloc::AllocError;
 use thiserror::Error;
+use used_laws::SpaceFault;
 
 /// Why nothing comes of a file's data.
 #[derive(Clone, Copy, Debug, PartialEq, Eq, Error)]

@@ -1,26 +1,23 @@
 //! Data that stands in its record.
 ghost use Rattle.std.specs.Prelude.{◌≡◌, ◌<◌, ◌≤◌, ◌^◌, true, false, [], ◌∷◌, IfOk, length};
-ghost use Rattle.record_model.specs.Constants.{data_type};
-ghost use Rattle.record_model.specs.Pairs.{cluster_limit};
-ghost use Rattle.state_model.specs.Streams.{attributes_of};
-ghost use Rattle.record_streams.specs.Fitting.{FitsButRoom};
-ghost use Rattle.resized_streams.specs.Resizing.{unplaced};
-ghost use Rattle.step_model.specs.Used.{used_after, own_attr, value_attr};
-ghost use Rattle.tree_model.specs.Steps.{IsWithinBounds};
+ghost use Rattle.used_laws.specs.record_model.Constants.{data_type};
+ghost use Rattle.used_laws.specs.record_model.Pairs.{cluster_limit};
+ghost use Rattle.used_laws.specs.state_model.Streams.{attributes_of};
+ghost use Rattle.used_laws.specs.record_streams.Fitting.{FitsButRoom};
+ghost use Rattle.used_laws.specs.resized_streams.Resizing.{unplaced};
+ghost use Rattle.used_laws.specs.step_model.Used.{used_after, own_attr, value_attr};
+ghost use Rattle.used_laws.specs.tree_model.Steps.{IsWithinBounds};
 ghost use Rattle.data_plan.specs.Changes.{data_in, ShowsData, BeginsAtZero, HasData, GrowsLittle, IsHeld, MustLeave, IsKept, IsReadyChange, DataAfter};
 
 use crate::change::DataChange;
 use crate::fault::DataFault;
 use crate::resizing::{MOST_USED, grown, used};
-use file_record::FileRec;
-use file_tree::Node;
 use host_base::Memory;
-use plan_space::FreeBits;
-use record_model::{DATA, Runs};
-use record_values::valued_record;
-use state_model::{ClusterSize, Extents};
 use std::alloc::Global;
-use tree_model::{Op, clusters_for, shrinks, size_after};
+use used_laws::{
+    ClusterSize, DATA, Extents, FileRec, FreeBits, Node, Op, Runs, clusters_for, shrinks,
+    size_after, valued_record,
+};
 
 // The bytes that the record uses where its data is a value of so many bytes.
 fn used_as_value(alloc: Global, file: &FileRec, size: u64) -> Result<u64, Memory>

@@ -12,11 +12,9 @@ mod resizing;
 
 pub use change::DataChange;
 pub use fault::DataFault;
-pub use file_record::FileRec;
-pub use file_tree::Node;
 pub use laws::data_made;
-pub use plan_space::FreeBits;
 pub use planning::data_after;
-pub use resized_streams::Resized;
-pub use state_model::ClusterSize;
-pub use tree_model::Op;
+pub use used_laws::{
+    ClusterSize, FileRec, FreeBits, Node, Op, Resized, grow, is_attribute_of, normal_attr,
+    placed_record, push_copies, sized, steps_of_trees, steps_stay, valued_record,
+};

@@ -1,22 +1,19 @@
 //! Data that stands in clusters.
 ghost use Rattle.std.specs.Prelude.{◌≡◌, ◌<◌, ◌≤◌, ◌^◌, ℕ, false, List, Bool, Some, IfOk, length};
-ghost use Rattle.record_model.specs.Pairs.{cluster_limit};
-ghost use Rattle.state_model.specs.declared.stream.Stream.TheVariants.{Placed};
-ghost use Rattle.tree_model.specs.Effects.{clusters_after};
-ghost use Rattle.tree_model.specs.Steps.{IsWithinBounds};
+ghost use Rattle.used_laws.specs.record_model.Pairs.{cluster_limit};
+ghost use Rattle.used_laws.specs.state_model.declared.stream.Stream.TheVariants.{Placed};
+ghost use Rattle.used_laws.specs.tree_model.Effects.{clusters_after};
+ghost use Rattle.used_laws.specs.tree_model.Steps.{IsWithinBounds};
 ghost use Rattle.data_plan.specs.Changes.{data_in, ShowsData, HasData, GrowsLittle, IsReadyChange, DataAfter};
 
 use crate::change::DataChange;
 use crate::fault::DataFault;
 use crate::resizing::{MOST_USED, grown, have_bytes, used, with_room};
-use file_record::FileRec;
-use file_tree::Node;
-use plan_space::FreeBits;
-use record_model::DATA;
-use resized_streams::{cut, sized};
-use state_model::{ClusterSize, Extents};
 use std::alloc::Global;
-use tree_model::{Op, clusters_after, size_after, valid_after};
+use used_laws::{
+    ClusterSize, DATA, Extents, FileRec, FreeBits, Node, Op, clusters_after, cut, size_after,
+    sized, valid_after,
+};
 
 // Data takes clusters behind its own.
 fn grows<B: FreeBits>(

@@ -1,21 +1,15 @@
 //! What comes of a file's unnamed data.
 ghost use Rattle.std.specs.Prelude.{◌≡◌, ◌≤◌, IfOk, length};
-ghost use Rattle.record_model.specs.Pairs.{cluster_limit};
-ghost use Rattle.tree_model.specs.Steps.{IsWithinBounds};
+ghost use Rattle.used_laws.specs.record_model.Pairs.{cluster_limit};
+ghost use Rattle.used_laws.specs.tree_model.Steps.{IsWithinBounds};
 ghost use Rattle.data_plan.specs.Changes.{ShowsData, HasData, GrowsLittle, IsReadyChange, DataAfter};
 
 use crate::change::DataChange;
 use crate::fault::DataFault;
 use crate::held::held_after;
 use crate::placed::placed_after;
-use file_record::FileRec;
-use file_tree::Node;
-use plan_space::FreeBits;
-use record_model::DATA;
-use state_model::{ClusterSize, Stream};
 use std::alloc::Global;
-use stream_map::stream_of;
-use tree_model::Op;
+use used_laws::{ClusterSize, DATA, FileRec, FreeBits, Node, Op, Stream, stream_of};
 
 /// What comes of the unnamed data of this file in an operation that writes or cuts it (Linux-NTFS
 /// documentation, "$DATA", "Attribute Header"), as a step counts it: it stays in its record, leaves

@@ -1,29 +1,26 @@
 //! A file's unnamed data that is resized, where its record has room.
 ghost use Rattle.std.specs.Prelude.{◌≡◌, ◌+◌, ◌<◌, ◌≤◌, ◌^◌, [], ◌∷◌, All, IfOk, IfSome, OnErr, not, count_by, length};
-ghost use Rattle.record_model.specs.Constants.{data_type};
-ghost use Rattle.record_model.specs.Pairs.{cluster_limit, HasSpelling};
-ghost use Rattle.record_model.specs.Records.{used_of};
-ghost use Rattle.state_model.specs.Loads.{total_clusters};
-ghost use Rattle.space_model.specs.Choosing.{chosen, with_runs};
-ghost use Rattle.plan_space.specs.Choices.{TakesFirst};
-ghost use Rattle.stream_runs.specs.Runs.{last_cluster};
-ghost use Rattle.record_streams.specs.Fitting.{FitsButRoom};
-ghost use Rattle.record_streams.specs.Placing.{placed_record};
-ghost use Rattle.resized_streams.specs.Resizing.{lengthened, IsGrown};
+ghost use Rattle.used_laws.specs.record_model.Constants.{data_type};
+ghost use Rattle.used_laws.specs.record_model.Pairs.{cluster_limit, HasSpelling};
+ghost use Rattle.used_laws.specs.record_model.Records.{used_of};
+ghost use Rattle.used_laws.specs.state_model.Loads.{total_clusters};
+ghost use Rattle.used_laws.specs.space_model.Choosing.{chosen, with_runs};
+ghost use Rattle.used_laws.specs.plan_space.Choices.{TakesFirst};
+ghost use Rattle.used_laws.specs.stream_runs.Runs.{last_cluster};
+ghost use Rattle.used_laws.specs.record_streams.Fitting.{FitsButRoom};
+ghost use Rattle.used_laws.specs.record_streams.Placing.{placed_record};
+ghost use Rattle.used_laws.specs.resized_streams.Resizing.{lengthened, IsGrown};
 ghost use Rattle.used_laws.specs.Laws.{AreFormBytes, HasBytes};
-ghost use Rattle.disk_model.specs.Bytes.{AreBytes};
-ghost use Rattle.step_model.specs.Plans.{full_row};
+ghost use Rattle.used_laws.specs.disk_model.Bytes.{AreBytes};
+ghost use Rattle.used_laws.specs.step_model.Plans.{full_row};
 ghost use Rattle.data_plan.specs.Changes.{IsReady};
 ghost use Rattle.data_plan.specs.Faults.{IsShortOf, HasRow};
 
 use crate::fault::DataFault;
-use file_record::FileRec;
-use plan_space::FreeBits;
-use record_model::{Attr, DATA, OwnForm};
-use record_writer::WrittenRecord;
-use resized_streams::{Resized, grow};
-use state_model::{ClusterSize, Extents};
 use std::alloc::Global;
+use used_laws::{
+    Attr, ClusterSize, DATA, Extents, FileRec, FreeBits, OwnForm, Resized, WrittenRecord, grow,
+};
 
 // The most bytes that a record uses.
 pub const MOST_USED: u64 = 1024;

@@ -8,11 +8,11 @@ use Rattle.disk_model.specs.Bytes.{part, written}
 use Rattle.disk_model.specs.Sectors.{sector_of, raw_from, zero_sector}
 use Rattle.disk_model.proofs.Sectors.{length-raw_from, part-raw_from}
 use Rattle.disk_model.proofs.Frames.{written_before, written_behind}
-use Rattle.sector_device.specs.Disks.{is_within}
-use Rattle.sector_device.specs.Sectors.{sector_in, sectors_of, IsTornBy}
-use Rattle.sector_device.specs.WholeSectors.{length-sectors_of, get_or-sectors_of}
-use Rattle.sector_device.proofs.SectorParts.{outside_stays}
-use Rattle.sector_device.proofs.KeptCalls.{cases_within}
+use Rattle.log_area.specs.sector_device.Disks.{is_within}
+use Rattle.log_area.specs.sector_device.Sectors.{sector_in, sectors_of, IsTornBy}
+use Rattle.log_area.specs.sector_device.WholeSectors.{length-sectors_of, get_or-sectors_of}
+use Rattle.log_area.proofs.sector_device.SectorParts.{outside_stays}
+use Rattle.log_area.proofs.sector_device.KeptCalls.{cases_within}
 use Rattle.device_view.specs.Devices.{IsHeld}
 use Rattle.device_blocks.specs.Pieces.{MeetsPiece}
 

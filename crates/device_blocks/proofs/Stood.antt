@@ -15,8 +15,8 @@ use Rattle.fixup_record.specs.ProtectLaws.{IsArrayApart}
 use Rattle.fixup_record.specs.Spellings.{is_sequenced, IsReady, HasSpelling, has_spelling, spelled}
 use Rattle.fixup_record.proofs.Protected.{length-protected, stays, undone}
 use Rattle.fixup_record.proofs.Spelled.{IsBig, tested}
-use Rattle.sector_device.specs.Sectors.{sectors_of}
-use Rattle.sector_device.specs.WholeSectors.{length-sectors_of}
+use Rattle.log_area.specs.sector_device.Sectors.{sectors_of}
+use Rattle.log_area.specs.sector_device.WholeSectors.{length-sectors_of}
 use Rattle.device_blocks.specs.declared.word.CheckWord.{CheckWord}
 use Rattle.device_blocks.specs.declared.word.CheckWord.TheVariants.{Missing, Stands}
 use Rattle.device_blocks.specs.Words.{check_or_none, stood_check, read_word, written_word}

@@ -3,7 +3,7 @@ use Rattle.std.specs.Prelude.{◌≡◌, ◌⊎◌, ℕ, ◌*◌, List, length, 
 use Rattle.disk_model.specs.declared.block.Block.{Block}
 use Rattle.disk_model.specs.Sectors.{sector_of, sectors, raw_from}
 use Rattle.fixup_record.specs.Spellings.{spelled}
-use Rattle.sector_device.specs.Moments.{moment_after, Changes}
+use Rattle.log_area.specs.sector_device.Moments.{moment_after, Changes}
 use Rattle.log_area.specs.Calls.{IsAsked, sending_moment, Sends}
 use Rattle.device_blocks.specs.declared.word.CheckWord.{CheckWord}
 use Rattle.device_blocks.specs.declared.word.CheckWord.TheVariants.{Unread, Missing, Stands, Sent}

@@ -3,8 +3,8 @@ use Rattle.std.specs.Prelude.{◌≡◌, ℕ, ◌-◌, ◌*◌, ◌^◌, ◌<◌
 use Rattle.disk_model.specs.declared.block.BlockKind.{BlockKind}
 use Rattle.disk_model.specs.Sectors.{sector_of, sectors, raw_from, IsDisk}
 use Rattle.fixup_record.specs.Spellings.{has_spelling, spelled}
-use Rattle.sector_device.specs.Disks.{is_within}
-use Rattle.sector_device.specs.Sectors.{sectors_of}
+use Rattle.log_area.specs.sector_device.Disks.{is_within}
+use Rattle.log_area.specs.sector_device.Sectors.{sectors_of}
 use Rattle.device_blocks.specs.Words.{stood_check, read_word, written_word}
 
 -- The word that is known after a write that answered Ok is the one that stands there.

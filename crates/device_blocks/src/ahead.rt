@@ -5,8 +5,8 @@ ghost use Rattle.disk_model.specs.Bytes.{part, written};
 ghost use Rattle.disk_model.specs.Content.{content_of};
 ghost use Rattle.disk_model.specs.Sectors.{sector_of, sectors, raw_from};
 ghost use Rattle.host_base.specs.Causes.{FailsByCause, last_moment};
-ghost use Rattle.sector_device.specs.Moments.{moment_after, DoesNothing, Writes, Syncs};
-ghost use Rattle.sector_device.specs.Sectors.{sectors_of, IsTornBy};
+ghost use Rattle.log_area.specs.sector_device.Moments.{moment_after, DoesNothing, Writes, Syncs};
+ghost use Rattle.log_area.specs.sector_device.Sectors.{sectors_of, IsTornBy};
 ghost use Rattle.device_view.specs.Devices.{IsHeld, KeepsDevice};
 ghost use Rattle.device_blocks.specs.Words.{IsToldOf, IsFitWord};
 ghost use Rattle.device_blocks.specs.Pieces.{MeetsPiece};
@@ -16,7 +16,7 @@ use crate::word::CheckWord;
 use device_view::{PIECE_BYTES, ReadAhead};
 use disk_model::{Block, BlockKind, Body};
 use host_base::Failed;
-use sector_device::{Device, SECTOR_BYTES};
+use log_area::{Device, SECTOR_BYTES};
 
 const PIECE_SECTORS: u64 = 128;
 

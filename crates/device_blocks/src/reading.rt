@@ -10,7 +10,7 @@ use crate::undoing::undo;
 use crate::word::CheckWord;
 use disk_model::{Block, BlockKind, Body};
 use host_base::Failed;
-use sector_device::Device;
+use log_area::Device;
 
 // Reads the body of a block through a buffer of its size.
 fn read_through<D: Device>(

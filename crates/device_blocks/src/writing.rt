@@ -14,7 +14,7 @@ use crate::word::CheckWord;
 use disk_model::{Block, BlockKind};
 use fixup_record::{next_check, protect};
 use host_base::Failed;
-use sector_device::Device;
+use log_area::Device;
 
 // The word of a write over raw bytes of such a block, which are changed.
 fn word_over(kind: BlockKind, raw: &mut [u8]) -> u16

@@ -3,7 +3,7 @@ ghost use Rattle.std.specs.Option.{option_map};
 ghost use Rattle.disk_model.specs.Bytes.{part, written};
 ghost use Rattle.disk_model.specs.Content.{content_of};
 ghost use Rattle.disk_model.specs.Sectors.{sector_of, sectors, raw_from};
-ghost use Rattle.host_base.specs.Causes.{FailsByCause, last_moment};
+ghost use Rattle.disk_model.specs.host_base.Causes.{FailsByCause, last_moment};
 ghost use Rattle.sector_device.specs.Moments.{moment_after, DoesNothing, Writes};
 ghost use Rattle.sector_device.specs.Sectors.{sectors_of, IsTornBy};
 ghost use Rattle.device_view.specs.Devices.{KeepsDevice, IsHeld};
@@ -11,8 +11,7 @@ ghost use Rattle.device_view.specs.Devices.{KeepsDevice, IsHeld};
 use crate::reading::read_sectors;
 use crate::room::PIECE_BYTES;
 use crate::undoing::set_body;
-use disk_model::{Block, BlockKind, Body};
-use host_base::Failed;
+use disk_model::{Block, BlockKind, Body, Failed};
 use sector_device::{Device, SECTOR_BYTES};
 
 const PIECE_SECTORS: u64 = 128;

@@ -17,7 +17,7 @@ use Rattle.state_model.specs.declared.stream.Stream.{Stream}
 use Rattle.state_model.specs.declared.stream.Stream.TheVariants.{Placed}
 use Rattle.state_model.specs.Streams.{attributes_of, stream_of}
 use Rattle.volume_model.specs.Volumes.{size_or}
-use Rattle.record_values.specs.Values.{valued_record}
+use Rattle.data_plan.specs.record_values.Values.{valued_record}
 use Rattle.disk_model.specs.Bytes.{zeros}
 use Rattle.tree_model.specs.declared.reply.Reply.{Reply}
 use Rattle.space_model.specs.Choosing.{chosen, with_run, with_clusters, with_runs}
@@ -26,12 +26,12 @@ use Rattle.space_model.proofs.Lawful.{chosen_are_free}
 use Rattle.space_model.proofs.Fitting.{counted_after}
 use Rattle.plan_space.specs.Choices.{TakesFirst}
 use Rattle.stream_runs.specs.Runs.{last_cluster}
-use Rattle.resized_streams.specs.declared.resized.Resized.{Resized}
-use Rattle.step_model.specs.Placing.{Growth, more_of, taken_runs, wanted_by}
-use Rattle.step_model.specs.Used.{used_after, own_attr, value_attr}
-use Rattle.step_model.specs.Streams.{Wanted, Comes, Changed, in_clusters, comes, no_change, and_then, own_comes, used_key, blocks_size, wanted_size, wanted_blocks, wanted_used, used_behind, with_own, index_comes}
-use Rattle.step_model.specs.Plans.{full_row}
-use Rattle.used_laws.specs.Laws.{IsOther}
+use Rattle.data_plan.specs.resized_streams.declared.resized.Resized.{Resized}
+use Rattle.data_plan.specs.step_model.Placing.{Growth, more_of, taken_runs, wanted_by}
+use Rattle.data_plan.specs.step_model.Used.{used_after, own_attr, value_attr}
+use Rattle.data_plan.specs.step_model.Streams.{Wanted, Comes, Changed, in_clusters, comes, no_change, and_then, own_comes, used_key, blocks_size, wanted_size, wanted_blocks, wanted_used, used_behind, with_own, index_comes}
+use Rattle.data_plan.specs.step_model.Plans.{full_row}
+use Rattle.data_plan.specs.used_laws.Laws.{IsOther}
 use Rattle.data_plan.specs.declared.fault.DataFault.{DataFault}
 use Rattle.data_plan.specs.declared.fault.DataFault.TheVariants.{Full, Short, Memory}
 use Rattle.data_plan.specs.Faults.{IsShortFault, IsRowFault}

@@ -19,15 +19,15 @@ use Rattle.space_model.specs.Choosing.{chosen, with_runs}
 use Rattle.plan_space.specs.Choices.{TakesFirst}
 use Rattle.stream_laws.specs.Sharing.{runs_in}
 use Rattle.stream_runs.specs.Runs.{last_cluster}
-use Rattle.record_values.specs.Values.{valued_record}
-use Rattle.resized_streams.specs.declared.resized.Resized.{Resized}
-use Rattle.resized_streams.specs.Resizing.{unplaced}
-use Rattle.step_model.specs.Placing.{Growth, more_of, runs_after}
-use Rattle.step_model.specs.Used.{used_after, own_attr, value_attr, placed_attr, stays_in}
-use Rattle.step_model.specs.Streams.{Wanted, Comes, in_record, as_value, placed_among, placed_by, in_clusters, comes}
-use Rattle.step_model.specs.Plans.{full_row}
-use Rattle.used_laws.proofs.Lengths.{written_used}
-use Rattle.used_laws.proofs.Beside.{together, used}
+use Rattle.data_plan.specs.record_values.Values.{valued_record}
+use Rattle.data_plan.specs.resized_streams.declared.resized.Resized.{Resized}
+use Rattle.data_plan.specs.resized_streams.Resizing.{unplaced}
+use Rattle.data_plan.specs.step_model.Placing.{Growth, more_of, runs_after}
+use Rattle.data_plan.specs.step_model.Used.{used_after, own_attr, value_attr, placed_attr, stays_in}
+use Rattle.data_plan.specs.step_model.Streams.{Wanted, Comes, in_record, as_value, placed_among, placed_by, in_clusters, comes}
+use Rattle.data_plan.specs.step_model.Plans.{full_row}
+use Rattle.data_plan.proofs.used_laws.Lengths.{written_used}
+use Rattle.data_plan.proofs.used_laws.Beside.{together, used}
 use Rattle.data_plan.specs.declared.fault.DataFault.{DataFault}
 use Rattle.data_plan.specs.declared.fault.DataFault.TheVariants.{Memory}
 use Rattle.data_plan.specs.Faults.{IsShortFault, IsRowFault}

@@ -13,14 +13,14 @@ use Rattle.state_model.specs.Loads.{total_clusters}
 use Rattle.state_model.specs.Streams.{attributes_of}
 use Rattle.space_model.specs.Choosing.{chosen}
 use Rattle.stream_runs.specs.Runs.{grown, last_cluster}
-use Rattle.record_streams.specs.Placing.{placed_record}
-use Rattle.resized_streams.specs.declared.resized.Resized.{Resized}
-use Rattle.resized_streams.specs.Resizing.{lengthened, with_sizes, IsGrown, IsSized}
-use Rattle.step_model.specs.Placing.{Growth, more_of, runs_after}
-use Rattle.step_model.specs.Used.{used_after, own_attr, placed_attr}
-use Rattle.step_model.specs.Streams.{Wanted, placed_among, placed_by}
-use Rattle.used_laws.specs.Laws.{IsOther}
-use Rattle.used_laws.proofs.Beside.{together}
+use Rattle.data_plan.specs.record_streams.Placing.{placed_record}
+use Rattle.data_plan.specs.resized_streams.declared.resized.Resized.{Resized}
+use Rattle.data_plan.specs.resized_streams.Resizing.{lengthened, with_sizes, IsGrown, IsSized}
+use Rattle.data_plan.specs.step_model.Placing.{Growth, more_of, runs_after}
+use Rattle.data_plan.specs.step_model.Used.{used_after, own_attr, placed_attr}
+use Rattle.data_plan.specs.step_model.Streams.{Wanted, placed_among, placed_by}
+use Rattle.data_plan.specs.used_laws.Laws.{IsOther}
+use Rattle.data_plan.proofs.used_laws.Beside.{together}
 use Rattle.data_plan.proofs.Cases.{above, equal, runs_grown, runs_same}
 use Rattle.directory_growth.specs.Clusters.{longer_extents, IsLonger, counted_record}
 use Rattle.directory_growth.specs.Growing.{extents_after, ComesInto}

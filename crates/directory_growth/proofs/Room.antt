@@ -21,19 +21,19 @@ use Rattle.space_model.specs.Choosing.{chosen, with_runs}
 use Rattle.stream_runs.specs.Runs.{last_cluster}
 use Rattle.record_model.proofs.UnitBytes.{length-zeros}
 use Rattle.disk_model.specs.Bytes.{zeros}
-use Rattle.record_streams.specs.Placing.{placed_record}
-use Rattle.record_streams.proofs.Streams.{attribute_kind, first_passes, placed_others}
-use Rattle.record_values.specs.Values.{valued_record}
-use Rattle.record_values.proofs.Valued.{values_put}
-use Rattle.resized_streams.specs.Resizing.{unplaced}
-use Rattle.draft_records.specs.Records.{written_bytes}
-use Rattle.step_model.specs.Placing.{Growth, runs_after}
-use Rattle.step_model.specs.Used.{is_replaced, attrs_with, used_after, own_attr, value_attr, placed_attr, first_or, new_attr}
-use Rattle.step_model.specs.Streams.{Wanted, Comes, placed_among, placed_by, comes, own_comes, used_key, wanted_size, wanted_blocks, wanted_used}
-use Rattle.used_laws.specs.Laws.{IsOther, IsReadAttr}
-use Rattle.used_laws.proofs.Lengths.{bytes-append, filter_yes, filter_no}
-use Rattle.used_laws.proofs.Beside.{one_more, together, used}
-use Rattle.used_laws.proofs.Staying.{sizes}
+use Rattle.data_plan.specs.record_streams.Placing.{placed_record}
+use Rattle.data_plan.proofs.record_streams.Streams.{attribute_kind, first_passes, placed_others}
+use Rattle.data_plan.specs.record_values.Values.{valued_record}
+use Rattle.data_plan.proofs.record_values.Valued.{values_put}
+use Rattle.data_plan.specs.resized_streams.Resizing.{unplaced}
+use Rattle.data_plan.specs.draft_records.Records.{written_bytes}
+use Rattle.data_plan.specs.step_model.Placing.{Growth, runs_after}
+use Rattle.data_plan.specs.step_model.Used.{is_replaced, attrs_with, used_after, own_attr, value_attr, placed_attr, first_or, new_attr}
+use Rattle.data_plan.specs.step_model.Streams.{Wanted, Comes, placed_among, placed_by, comes, own_comes, used_key, wanted_size, wanted_blocks, wanted_used}
+use Rattle.data_plan.specs.used_laws.Laws.{IsOther, IsReadAttr}
+use Rattle.data_plan.proofs.used_laws.Lengths.{bytes-append, filter_yes, filter_no}
+use Rattle.data_plan.proofs.used_laws.Beside.{one_more, together, used}
+use Rattle.data_plan.proofs.used_laws.Staying.{sizes}
 use Rattle.data_plan.specs.Changes.{BeginsAtZero}
 use Rattle.data_plan.proofs.Cases.{above, equal, runs_same}
 use Rattle.data_plan.proofs.Taking.{there_is}

@@ -20,15 +20,15 @@ use Rattle.tree_model.specs.Needs.{clusters_for}
 use Rattle.space_model.specs.Choosing.{chosen}
 use Rattle.stream_laws.specs.Sharing.{runs_in}
 use Rattle.stream_runs.specs.Runs.{last_cluster}
-use Rattle.record_streams.specs.Placing.{placed_record}
-use Rattle.record_streams.proofs.Streams.{attribute_kind, first_passes, placed_others}
-use Rattle.record_values.specs.Values.{valued_record}
-use Rattle.record_values.proofs.Valued.{values_put}
-use Rattle.step_model.specs.Placing.{runs_after}
-use Rattle.step_model.specs.Used.{used_after, new_attr, first_or, own_attr, value_attr, placed_attr}
-use Rattle.step_model.specs.Streams.{Wanted, Comes, placed_among, placed_by, in_clusters, comes, root_comes, own_comes, blocks_key, used_key, wanted_size, wanted_blocks, wanted_used}
-use Rattle.used_laws.specs.Laws.{IsOther}
-use Rattle.used_laws.proofs.Beside.{together}
+use Rattle.data_plan.specs.record_streams.Placing.{placed_record}
+use Rattle.data_plan.proofs.record_streams.Streams.{attribute_kind, first_passes, placed_others}
+use Rattle.data_plan.specs.record_values.Values.{valued_record}
+use Rattle.data_plan.proofs.record_values.Valued.{values_put}
+use Rattle.data_plan.specs.step_model.Placing.{runs_after}
+use Rattle.data_plan.specs.step_model.Used.{used_after, new_attr, first_or, own_attr, value_attr, placed_attr}
+use Rattle.data_plan.specs.step_model.Streams.{Wanted, Comes, placed_among, placed_by, in_clusters, comes, root_comes, own_comes, blocks_key, used_key, wanted_size, wanted_blocks, wanted_used}
+use Rattle.data_plan.specs.used_laws.Laws.{IsOther}
+use Rattle.data_plan.proofs.used_laws.Beside.{together}
 use Rattle.data_plan.specs.Changes.{BeginsAtZero}
 use Rattle.data_plan.proofs.Taking.{there_is}
 use Rattle.directory_growth.specs.Clusters.{longer_extents, counted_record}

@@ -7,11 +7,11 @@ use Rattle.state_model.specs.declared.stream.Extents.{Extents}
 use Rattle.state_model.specs.declared.stream.Stream.{Stream}
 use Rattle.space_model.specs.Choosing.{with_runs}
 use Rattle.plan_space.specs.Choices.{TakesFirst}
-use Rattle.resized_streams.specs.declared.resized.Resized.{Resized}
-use Rattle.step_model.specs.Placing.{more_of}
-use Rattle.step_model.specs.Used.{used_after, own_attr, value_attr}
-use Rattle.step_model.specs.Streams.{Wanted, comes}
-use Rattle.step_model.specs.Plans.{full_row}
+use Rattle.data_plan.specs.resized_streams.declared.resized.Resized.{Resized}
+use Rattle.data_plan.specs.step_model.Placing.{more_of}
+use Rattle.data_plan.specs.step_model.Used.{used_after, own_attr, value_attr}
+use Rattle.data_plan.specs.step_model.Streams.{Wanted, comes}
+use Rattle.data_plan.specs.step_model.Plans.{full_row}
 use Rattle.data_plan.specs.declared.fault.DataFault.{DataFault}
 use Rattle.data_plan.specs.Faults.{IsShortOf, HasRow}
 use Rattle.directory_growth.specs.declared.change.IndexChange.{IndexChange}

@@ -4,9 +4,9 @@ use Rattle.record_model.specs.declared.runs.Run.{Run}
 use Rattle.record_model.specs.Constants.{names_index}
 use Rattle.record_model.specs.Records.{Record}
 use Rattle.state_model.specs.declared.stream.Extents.{Extents}
-use Rattle.record_streams.specs.Placing.{placed_record}
-use Rattle.resized_streams.specs.declared.resized.Resized.{Resized}
-use Rattle.resized_streams.specs.Resizing.{lengthened, with_sizes}
+use Rattle.data_plan.specs.record_streams.Placing.{placed_record}
+use Rattle.data_plan.specs.resized_streams.declared.resized.Resized.{Resized}
+use Rattle.data_plan.specs.resized_streams.Resizing.{lengthened, with_sizes}
 
 -- the stream with this size, all of it initialised, and with these runs behind its own where clusters are wanted
 unfoldable pub longer_extents : ℕ → ℕ → ℕ → List Run → Extents → Extents

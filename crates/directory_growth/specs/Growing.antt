@@ -15,15 +15,15 @@ use Rattle.volume_model.specs.Volumes.{size_or}
 use Rattle.tree_model.specs.declared.reply.Reply.{Reply}
 use Rattle.space_model.specs.Choosing.{with_runs}
 use Rattle.plan_space.specs.Choices.{TakesFirst}
-use Rattle.record_streams.specs.Fitting.{FitsButRoom}
-use Rattle.record_streams.specs.Placing.{placed_record}
-use Rattle.record_values.specs.Values.{valued_record}
-use Rattle.resized_streams.specs.declared.resized.Resized.{Resized}
-use Rattle.resized_streams.specs.Resizing.{unplaced}
-use Rattle.step_model.specs.Placing.{Growth, more_of, runs_after, taken_runs, wanted_by}
-use Rattle.step_model.specs.Used.{used_after}
-use Rattle.step_model.specs.Streams.{in_clusters, wanted_blocks, wanted_used, index_comes}
-use Rattle.step_model.specs.Plans.{full_row, used_in}
+use Rattle.data_plan.specs.record_streams.Fitting.{FitsButRoom}
+use Rattle.data_plan.specs.record_streams.Placing.{placed_record}
+use Rattle.data_plan.specs.record_values.Values.{valued_record}
+use Rattle.data_plan.specs.resized_streams.declared.resized.Resized.{Resized}
+use Rattle.data_plan.specs.resized_streams.Resizing.{unplaced}
+use Rattle.data_plan.specs.step_model.Placing.{Growth, more_of, runs_after, taken_runs, wanted_by}
+use Rattle.data_plan.specs.step_model.Used.{used_after}
+use Rattle.data_plan.specs.step_model.Streams.{in_clusters, wanted_blocks, wanted_used, index_comes}
+use Rattle.data_plan.specs.step_model.Plans.{full_row, used_in}
 use Rattle.data_plan.specs.declared.fault.DataFault.{DataFault}
 use Rattle.data_plan.specs.declared.fault.DataFault.TheVariants as fault
 use Rattle.data_plan.specs.Faults.{IsShortOf, HasRow}

@@ -3,9 +3,9 @@ use Rattle.std.specs.Prelude.{◌≡◌, ℕ, ◌≤◌, Bool, List, All, length
 use Rattle.record_model.specs.Constants.{index_root, names_index}
 use Rattle.record_model.specs.Records.{Record}
 use Rattle.index_model.specs.Trees.{Tree}
-use Rattle.record_values.specs.Values.{valued_record}
-use Rattle.draft_records.specs.Records.{written_bytes}
-use Rattle.used_laws.specs.Laws.{HasBytes}
+use Rattle.data_plan.specs.record_values.Values.{valued_record}
+use Rattle.data_plan.specs.draft_records.Records.{written_bytes}
+use Rattle.data_plan.specs.used_laws.Laws.{HasBytes}
 use Rattle.directory_growth.specs.declared.change.BitsChange.{BitsChange}
 use Rattle.directory_growth.specs.declared.change.BitsChange.TheVariants as change
 use Rattle.directory_growth.specs.declared.change.IndexChange.{IndexChange}

@@ -1,5 +1,5 @@
+use data_plan::Resized;
 use file_record::FileRec;
-use resized_streams::Resized;
 
 /// What comes of the bitmap of a directory's index, in the record in which the index has its blocks.
 #[derive(Debug, Drop)]

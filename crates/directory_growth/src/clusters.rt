@@ -1,8 +1,8 @@
 //! A stream of a directory's index in clusters, which gets a greater size.
 ghost use Rattle.std.specs.Prelude.{◌≡◌, ◌+◌, ◌-◌, ◌<◌, ◌≤◌, ◌^◌, IfOk, IfErr, IfSome, OnErr, not, count_by, length};
 ghost use Rattle.record_model.specs.Pairs.{cluster_limit, HasSpelling};
-ghost use Rattle.record_streams.specs.Fitting.{FitsButRoom, IsPlaceable};
-ghost use Rattle.resized_streams.specs.Resizing.{unplaced, with_sizes};
+ghost use Rattle.data_plan.specs.record_streams.Fitting.{FitsButRoom, IsPlaceable};
+ghost use Rattle.data_plan.specs.resized_streams.Resizing.{unplaced, with_sizes};
 ghost use Rattle.space_model.specs.Choosing.{chosen, with_runs};
 ghost use Rattle.plan_space.specs.Choices.{TakesFirst};
 ghost use Rattle.data_plan.specs.declared.fault.DataFault.TheVariants.{Memory as no_memory};
@@ -13,11 +13,10 @@ ghost use Rattle.stream_runs.specs.Runs.{last_cluster};
 ghost use Rattle.data_plan.specs.Changes.{IsReady};
 ghost use Rattle.directory_growth.specs.Clusters.{IsLonger};
 
-use data_plan::DataFault;
+use data_plan::{DataFault, Resized, grow, sized};
 use file_record::FileRec;
 use plan_space::FreeBits;
 use record_model::{NAMES_INDEX, Runs};
-use resized_streams::{Resized, grow, sized};
 use state_model::{ClusterSize, Extents};
 use std::alloc::{AllocError, Global};
 use stream_runs::total_clusters;

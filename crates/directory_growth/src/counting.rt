@@ -4,15 +4,14 @@ ghost use Rattle.disk_model.specs.Bytes.{zeros};
 ghost use Rattle.record_model.specs.Constants.{names_index};
 ghost use Rattle.record_model.specs.Pairs.{HasSpelling};
 ghost use Rattle.record_model.specs.Records.{used_of};
-ghost use Rattle.record_streams.specs.Fitting.{FitsButRoom, IsPlaceable};
-ghost use Rattle.record_values.specs.Values.{valued_record};
+ghost use Rattle.data_plan.specs.record_streams.Fitting.{FitsButRoom, IsPlaceable};
+ghost use Rattle.data_plan.specs.record_values.Values.{valued_record};
 ghost use Rattle.directory_growth.specs.Clusters.{counted_record};
 
+use data_plan::{placed_record, valued_record};
 use file_record::FileRec;
 use host_base::Memory;
 use record_model::NAMES_INDEX;
-use record_streams::placed_record;
-use record_values::valued_record;
 use record_writer::WrittenRecord;
 use state_model::{ClusterSize, Extents};
 use std::alloc::{AllocError, Global};

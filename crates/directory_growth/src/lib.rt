@@ -13,10 +13,9 @@ mod growing;
 mod laws;
 
 pub use change::{BitsChange, IndexChange};
-pub use data_plan::DataFault;
+pub use data_plan::{DataFault, Resized};
 pub use file_record::FileRec;
 pub use growing::index_after;
 pub use laws::index_has_room;
 pub use plan_space::FreeBits;
-pub use resized_streams::Resized;
 pub use state_model::ClusterSize;

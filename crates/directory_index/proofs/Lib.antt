@@ -1,2 +1,3 @@
+pub use Rattle.index_tree.proofs as index_tree
 pub mod Links
 pub mod Numbers

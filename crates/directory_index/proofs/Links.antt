@@ -3,10 +3,10 @@ use Rattle.std.proofs.Common.{◌≡◌, ℕ, List, Option, Some, None, Result, 
 use Rattle.std.specs.Prelude.{IfSome}
 use Rattle.host_base.specs.Answers.{GivesOrFails}
 use Rattle.host_base.proofs.Known.{one, always}
-use Rattle.disk_model.specs.Content.{Content}
-use Rattle.record_model.specs.Records.{Record}
-use Rattle.file_tree.specs.declared.link.Link.{Link}
-use Rattle.index_model.specs.Walks.{walk_of}
+use Rattle.index_tree.specs.disk_model.Content.{Content}
+use Rattle.state_model.specs.record_model.Records.{Record}
+use Rattle.state_model.specs.file_tree.declared.link.Link.{Link}
+use Rattle.index_tree.specs.index_model.Walks.{walk_of}
 use Rattle.index_tree.specs.declared.place.DirPlace.{DirPlace}
 use Rattle.index_tree.specs.Places.{place_of}
 use Rattle.volume_model.specs.Indexes.{links_read, links_below, index_place, root_value, index_links}

@@ -4,9 +4,9 @@ use Rattle.std.specs.Prelude.{IfSome}
 use Rattle.std.specs.List.{range_with_len}
 use Rattle.host_base.specs.Answers.{GivesOrFails}
 use Rattle.host_base.proofs.Known.{one, both, always}
-use Rattle.disk_model.specs.Content.{Content}
-use Rattle.record_model.specs.Records.{Record}
-use Rattle.index_model.specs.Walks.{Broken}
+use Rattle.index_tree.specs.disk_model.Content.{Content}
+use Rattle.state_model.specs.record_model.Records.{Record}
+use Rattle.index_tree.specs.index_model.Walks.{Broken}
 use Rattle.state_model.specs.Files.{file_at, reference, is_directory_record}
 use Rattle.state_model.specs.Loads.{table_in}
 use Rattle.state_model.specs.Rules.{at_file, implies, first_failing}

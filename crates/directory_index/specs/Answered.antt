@@ -1,7 +1,7 @@
 -- What a walk over an index comes to.
 use Rattle.std.specs.Prelude.{List, Option, Some, None, Result, Ok, Err}
-use Rattle.block_view.specs.declared.fault.ViewFault.TheVariants as views
-use Rattle.file_tree.specs.declared.link.Link.{Link}
+use Rattle.index_tree.specs.block_view.declared.fault.ViewFault.TheVariants as views
+use Rattle.state_model.specs.file_tree.declared.link.Link.{Link}
 use Rattle.index_tree.specs.declared.fault.TreeFault.{TreeFault}
 use Rattle.index_tree.specs.declared.fault.TreeFault.TheVariants.{Node, Present, Absent, Deep, View}
 use Rattle.directory_index.specs.declared.fault.IndexFault.{IndexFault}

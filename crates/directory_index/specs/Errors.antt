@@ -1,6 +1,6 @@
 -- The causes of errors.
 use Rattle.host_base.specs.Answers.{Cause, no_memory, failed}
-use Rattle.index_model.specs.Walks.{Broken}
+use Rattle.index_tree.specs.index_model.Walks.{Broken}
 use Rattle.directory_index.specs.declared.fault.IndexFault.{IndexFault}
 use Rattle.directory_index.specs.declared.fault.IndexFault.TheVariants as faults
 

@@ -1,3 +1,4 @@
+pub use Rattle.index_tree.specs as index_tree
 pub mod Errors
 pub mod Placed
 pub mod Answered

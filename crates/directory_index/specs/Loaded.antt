@@ -1,6 +1,6 @@
 -- A volume of which the files alone are known.
 use Rattle.std.specs.Prelude.{ℕ, List, if◌then◌else◌, Option, Some, None}
-use Rattle.record_model.specs.Records.{Record}
+use Rattle.state_model.specs.record_model.Records.{Record}
 use Rattle.state_model.specs.Files.{Table, file_at, is_directory_record}
 use Rattle.state_model.specs.Loads.{no_extents}
 use Rattle.volume_model.specs.Volumes.{Volume}

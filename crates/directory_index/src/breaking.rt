@@ -7,7 +7,7 @@ ghost use Rattle.state_model.specs.Loads.{table_in};
 ghost use Rattle.state_model.specs.Rules.{names_in, first_failing};
 ghost use Rattle.record_rules.specs.Counts.{names_at};
 ghost use Rattle.record_rules.specs.Links.{links_in};
-ghost use Rattle.block_view.specs.Views.{AsksView};
+ghost use Rattle.index_tree.specs.block_view.Views.{AsksView};
 ghost use Rattle.volume_model.specs.Volumes.{Volume};
 ghost use Rattle.volume_model.specs.Indexes.{index_links, lists_names, keeps_index};
 ghost use Rattle.directory_index.specs.Errors.{index_cause};
@@ -15,14 +15,12 @@ ghost use Rattle.directory_index.specs.Loaded.{volume_with, only_directory, dire
 
 use crate::fault::IndexFault;
 use crate::holding::index_links;
-use block_view::View;
-use file_record::FileRec;
-use file_tree::LinkList;
 use host_base::FileRef;
-use record_rules::{file_at, is_directory_record, is_index};
-use state_model::ClusterSize;
+use index_tree::View;
+use record_rules::{FileRec, file_at, is_directory_record, is_index};
+use state_model::{ClusterSize, LinkList};
 use std::alloc::Global;
-use upcase_order::Upcase;
+use volume_model::Upcase;
 
 // Whether these are the names of the directory, in order.
 fn lists_names(

@@ -1,22 +1,20 @@
 //! The names that a directory's index holds.
 ghost use Rattle.std.specs.Prelude.{◌≡◌, Ok, IfSome};
 ghost use Rattle.host_base.specs.Answers.{GivesOrFails};
-ghost use Rattle.index_model.specs.Walks.{walk_of};
+ghost use Rattle.index_tree.specs.index_model.Walks.{walk_of};
 ghost use Rattle.index_tree.specs.Places.{place_of};
-ghost use Rattle.block_view.specs.Views.{AsksView};
+ghost use Rattle.index_tree.specs.block_view.Views.{AsksView};
 ghost use Rattle.volume_model.specs.Indexes.{links_read, index_links};
 ghost use Rattle.directory_index.specs.Errors.{index_cause};
 ghost use Rattle.directory_index.specs.Answered.{answer_of};
 
 use crate::fault::IndexFault;
 use crate::placing::index_place;
-use block_view::{View, ViewFault};
-use file_record::FileRec;
-use file_tree::LinkList;
-use index_tree::{DirPlace, TreeFault, walk};
-use state_model::ClusterSize;
+use index_tree::{DirPlace, TreeFault, View, ViewFault, walk};
+use record_rules::FileRec;
+use state_model::{ClusterSize, LinkList};
 use std::alloc::Global;
-use upcase_order::Upcase;
+use volume_model::Upcase;
 
 // What a walk over an index comes to: its links, or none where a node is at fault.
 fn answer_of(walked: Result<LinkList, TreeFault>) -> Result<Option<LinkList>, IndexFault>

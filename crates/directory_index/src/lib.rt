@@ -15,5 +15,5 @@ mod roots;
 pub use breaking::first_broken;
 pub use fault::IndexFault;
 pub use holding::index_links;
-pub use index_tree::{BlockList, DirPlace};
+pub use index_tree::{BlockList, DirPlace, TreeFault, find};
 pub use placing::index_place;

@@ -5,9 +5,9 @@ ghost use Rattle.volume_model.specs.Indexes.{stream_blocks, index_stream, index_
 ghost use Rattle.directory_index.specs.Placed.{root_in};
 
 use crate::roots::{index_stream, root_value};
-use file_record::FileRec;
 use host_base::{Bytes, Memory};
 use index_tree::{BlockList, DirPlace};
+use record_rules::FileRec;
 use state_model::{ClusterSize, Stream};
 use std::alloc::Global;
 

@@ -4,12 +4,11 @@ ghost use Rattle.std.specs.Option.{option_copied};
 ghost use Rattle.state_model.specs.Indexes.{is_names_root};
 ghost use Rattle.volume_model.specs.Indexes.{form_value, root_value, index_stream};
 
-use file_record::FileRec;
 use host_base::{Bytes, Memory};
-use record_model::{Attr, INDEX_ALLOCATION, INDEX_ROOT, NAMES_INDEX, OwnForm};
-use state_model::Stream;
+use index_tree::stream_of;
+use record_rules::FileRec;
+use state_model::{Attr, INDEX_ALLOCATION, INDEX_ROOT, NAMES_INDEX, OwnForm, Stream};
 use std::alloc::Global;
-use stream_map::stream_of;
 
 #[tactic(auto, unfolding(state_model::specs::Indexes::is_names_root))]
 fn is_names_root(attr: &Attr) -> bool

@@ -12,26 +12,26 @@ use Rattle.disk_model.specs.Bytes.{zeros}
 use Rattle.disk_model.specs.Content.{Content, HasSizes}
 use Rattle.disk_model.specs.Sectors.{same_block, same_kind, zero_sector}
 use Rattle.bit_set.specs.Words.{is_one, byte_bit}
-use Rattle.state_model.specs.declared.stream.Extents.{Extents}
-use Rattle.state_model.specs.declared.stream.Stream.{Stream}
-use Rattle.state_model.specs.declared.stream.Stream.TheVariants.{Held, Placed}
-use Rattle.state_model.specs.Streams.{block_at, byte_at, sector_bytes}
-use Rattle.stream_map.proofs.Reading.{kind-block_at}
+use Rattle.draft_resized.specs.state_model.declared.stream.Extents.{Extents}
+use Rattle.draft_resized.specs.state_model.declared.stream.Stream.{Stream}
+use Rattle.draft_resized.specs.state_model.declared.stream.Stream.TheVariants.{Held, Placed}
+use Rattle.draft_resized.specs.state_model.Streams.{block_at, byte_at, sector_bytes}
+use Rattle.draft_resized.proofs.stream_map.Reading.{kind-block_at}
 use Rattle.plan_bodies.specs.Bodies.{NewBody, body_in}
 use Rattle.plan_bodies.proofs.Putting.{block_itself}
-use Rattle.plan_draft.specs.declared.touched.Touched.{Touched}
-use Rattle.plan_draft.specs.Touching.{bodies_of, touch}
-use Rattle.plan_draft.specs.Drafts.{drafted}
-use Rattle.plan_draft.proofs.Puts.{bodies_touch}
-use Rattle.plan_draft.proofs.Same.{one_in_order}
-use Rattle.record_streams.proofs.Kept.{but_room_fits}
-use Rattle.draft_streams.specs.Parts.{touch_bytes}
-use Rattle.draft_streams.specs.Effects.{HasOwnSectors}
-use Rattle.draft_streams.proofs.Effecting.{effects}
-use Rattle.draft_bits.specs.Filling.{FillsBytes, byte_count, bytes_from, first_past, PutsBits}
-use Rattle.draft_bits.specs.Effects.{stream_bit, IsKept, IsNoSector}
-use Rattle.draft_bits.proofs.BitEffects.{byte_of, byte_there, same_bit, bits_put}
-use Rattle.draft_records.specs.Records.{record_block, is_past, has_mirror, fits_room, touch_if}
+use Rattle.draft_resized.specs.plan_draft.declared.touched.Touched.{Touched}
+use Rattle.draft_resized.specs.plan_draft.Touching.{bodies_of, touch}
+use Rattle.draft_resized.specs.plan_draft.Drafts.{drafted}
+use Rattle.draft_resized.proofs.plan_draft.Puts.{bodies_touch}
+use Rattle.draft_resized.proofs.plan_draft.Same.{one_in_order}
+use Rattle.record_values.proofs.record_streams.Kept.{but_room_fits}
+use Rattle.draft_resized.specs.draft_streams.Parts.{touch_bytes}
+use Rattle.draft_resized.specs.draft_streams.Effects.{HasOwnSectors}
+use Rattle.draft_resized.proofs.draft_streams.Effecting.{effects}
+use Rattle.draft_resized.specs.draft_bits.Filling.{FillsBytes, byte_count, bytes_from, first_past, PutsBits}
+use Rattle.draft_resized.specs.draft_bits.Effects.{stream_bit, IsKept, IsNoSector}
+use Rattle.draft_resized.proofs.draft_bits.BitEffects.{byte_of, byte_there, same_bit, bits_put}
+use Rattle.draft_resized.specs.draft_records.Records.{record_block, is_past, has_mirror, fits_room, touch_if}
 use Rattle.draft_resized.proofs.FileEffects.{long_of, kept_both, away_both}
 use Rattle.draft_bitmaps.specs.declared.bitmap.Bitmap.{Bitmap}
 use Rattle.draft_bitmaps.specs.Bitmaps.{bitmap_bit, with_value, with_extents, with_record, own_bytes, byte_end, is_below, raised, with_zeros, IsBitmap, PutsPast, PutsRaised, PutsPlacedBy, PutsInto}

@@ -5,13 +5,13 @@ use Rattle.host_base.specs.Answers.{needs}
 use Rattle.record_model.specs.declared.attribute.Attr.{Attr}
 use Rattle.record_model.specs.Attributes.{spelling}
 use Rattle.record_model.specs.Records.{Record, spelled_bytes}
-use Rattle.record_writer.specs.Edits.{whole_length}
-use Rattle.record_writer.specs.Normal.{normal}
-use Rattle.record_writer.proofs.Measures.{length-spelling}
-use Rattle.state_model.specs.Streams.{is_attribute_of, attributes_of}
-use Rattle.record_streams.specs.Placing.{with_stream, without_stream}
+use Rattle.draft_resized.specs.record_writer.Edits.{whole_length}
+use Rattle.draft_resized.specs.record_writer.Normal.{normal}
+use Rattle.draft_resized.proofs.record_writer.Measures.{length-spelling}
+use Rattle.draft_resized.specs.state_model.Streams.{is_attribute_of, attributes_of}
+use Rattle.record_values.specs.record_streams.Placing.{with_stream, without_stream}
 use Rattle.record_values.specs.Values.{valued_attr, valued_first, valued_record}
-use Rattle.draft_records.specs.Records.{written_bytes, fits_room}
+use Rattle.draft_resized.specs.draft_records.Records.{written_bytes, fits_room}
 
 attr_long : (v w : List ℕ) (a : Attr) → length v ≡ length w → length (spelling (normal (valued_attr v a))) ≡ length (spelling (normal (valued_attr w a)))
 attr_long v w a same =

@@ -5,18 +5,18 @@ use Rattle.disk_model.specs.Content.{Content}
 use Rattle.record_model.specs.Pairs.{HasSpelling}
 use Rattle.record_model.specs.Records.{record_spelling}
 use Rattle.bit_set.specs.Words.{byte_bit}
-use Rattle.state_model.specs.declared.stream.Extents.{Extents}
-use Rattle.state_model.specs.declared.stream.Stream.{Stream}
-use Rattle.state_model.specs.declared.stream.Stream.TheVariants.{Held, Placed}
-use Rattle.plan_draft.specs.declared.touched.Touched.{Touched}
-use Rattle.record_streams.specs.Fitting.{FitsButRoom, IsPlaceable}
-use Rattle.record_streams.specs.Placing.{placed_record}
+use Rattle.draft_resized.specs.state_model.declared.stream.Extents.{Extents}
+use Rattle.draft_resized.specs.state_model.declared.stream.Stream.{Stream}
+use Rattle.draft_resized.specs.state_model.declared.stream.Stream.TheVariants.{Held, Placed}
+use Rattle.draft_resized.specs.plan_draft.declared.touched.Touched.{Touched}
+use Rattle.record_values.specs.record_streams.Fitting.{FitsButRoom, IsPlaceable}
+use Rattle.record_values.specs.record_streams.Placing.{placed_record}
 use Rattle.record_values.specs.Values.{valued_record}
-use Rattle.resized_streams.specs.Resizing.{with_sizes}
-use Rattle.draft_streams.specs.Parts.{touch_bytes}
-use Rattle.draft_bits.specs.Filling.{FillsBytes, first_past, PutsBits}
-use Rattle.draft_bits.specs.Effects.{stream_bit}
-use Rattle.draft_records.specs.Records.{written_record, touch_record}
+use Rattle.draft_resized.specs.resized_streams.Resizing.{with_sizes}
+use Rattle.draft_resized.specs.draft_streams.Parts.{touch_bytes}
+use Rattle.draft_resized.specs.draft_bits.Filling.{FillsBytes, first_past, PutsBits}
+use Rattle.draft_resized.specs.draft_bits.Effects.{stream_bit}
+use Rattle.draft_resized.specs.draft_records.Records.{written_record, touch_record}
 use Rattle.draft_bitmaps.specs.declared.bitmap.Bitmap.{Bitmap}
 
 -- ---- the bitmap

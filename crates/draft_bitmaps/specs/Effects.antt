@@ -4,17 +4,17 @@ use Rattle.disk_model.specs.declared.block.Block.{Block}
 use Rattle.disk_model.specs.declared.block.BlockKind.TheVariants.{Plain}
 use Rattle.disk_model.specs.Content.{Content, HasSizes}
 use Rattle.disk_model.specs.Sectors.{same_block}
-use Rattle.state_model.specs.declared.stream.Extents.{Extents}
-use Rattle.state_model.specs.declared.stream.Stream.{Stream}
-use Rattle.state_model.specs.declared.stream.Stream.TheVariants.{Held, Placed}
-use Rattle.state_model.specs.Streams.{block_at}
+use Rattle.draft_resized.specs.state_model.declared.stream.Extents.{Extents}
+use Rattle.draft_resized.specs.state_model.declared.stream.Stream.{Stream}
+use Rattle.draft_resized.specs.state_model.declared.stream.Stream.TheVariants.{Held, Placed}
+use Rattle.draft_resized.specs.state_model.Streams.{block_at}
 use Rattle.plan_bodies.specs.Bodies.{body_in}
-use Rattle.plan_draft.specs.declared.touched.Touched.{Touched}
-use Rattle.plan_draft.specs.Touching.{bodies_of}
-use Rattle.plan_draft.specs.Drafts.{drafted}
-use Rattle.draft_streams.specs.Effects.{HasOwnSectors}
-use Rattle.draft_bits.specs.Effects.{IsKept, IsNoSector}
-use Rattle.draft_records.specs.Records.{record_block, fits_room}
+use Rattle.draft_resized.specs.plan_draft.declared.touched.Touched.{Touched}
+use Rattle.draft_resized.specs.plan_draft.Touching.{bodies_of}
+use Rattle.draft_resized.specs.plan_draft.Drafts.{drafted}
+use Rattle.draft_resized.specs.draft_streams.Effects.{HasOwnSectors}
+use Rattle.draft_resized.specs.draft_bits.Effects.{IsKept, IsNoSector}
+use Rattle.draft_resized.specs.draft_records.Records.{record_block, fits_room}
 use Rattle.draft_bitmaps.specs.declared.bitmap.Bitmap.{Bitmap}
 use Rattle.draft_bitmaps.specs.Bitmaps.{bitmap_bit, with_value, with_extents, own_bytes, is_below, raised, IsBitmap, PutsBitsOf}
 

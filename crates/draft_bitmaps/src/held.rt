@@ -2,21 +2,17 @@
 ghost use Rattle.std.specs.Prelude.{◌≡◌, ◌+◌, ◌*◌, ◌<◌, ◌≤◌, ◌^◌, IfErr, IfOk, IfSome, length};
 ghost use Rattle.host_base.specs.Answers.{GivesOrFails};
 ghost use Rattle.block_view.specs.Views.{AsksView};
-ghost use Rattle.record_streams.specs.Fitting.{FitsButRoom, IsPlaceable};
-ghost use Rattle.draft_bits.specs.Filling.{FillsBytes};
-ghost use Rattle.draft_records.specs.Faults.{draft_cause};
-ghost use Rattle.draft_records.specs.Records.{fits_room, StaysWhereFull};
+ghost use Rattle.record_values.specs.record_streams.Fitting.{FitsButRoom, IsPlaceable};
+ghost use Rattle.draft_resized.specs.draft_bits.Filling.{FillsBytes};
+ghost use Rattle.draft_resized.specs.draft_records.Faults.{draft_cause};
+ghost use Rattle.draft_resized.specs.draft_records.Records.{fits_room, StaysWhereFull};
 ghost use Rattle.draft_bitmaps.specs.Bitmaps.{with_value, with_record, HasFilled};
 
 use crate::bitmap::Bitmap;
 use block_view::View;
-use draft_bits::fill_bits;
-use draft_records::{DraftFault, put_file};
+use draft_resized::{ClusterSize, Draft, DraftFault, Extents, Stream, fill_bits, put_file};
 use host_base::Bytes;
-use plan_draft::Draft;
-use record_streams::placed_fits;
-use record_values::valued_record;
-use state_model::{ClusterSize, Extents, Stream};
+use record_values::{placed_fits, valued_record};
 use std::alloc::{AllocError, Global};
 
 // A copy of the value with the bits set or clear.

@@ -10,11 +10,12 @@ mod standing;
 
 pub use bitmap::Bitmap;
 pub use block_view::{View, ViewFault};
-pub use draft_records::DraftFault;
-pub use file_record::FileRec;
+pub use draft_resized::{
+    ClusterSize, Draft, DraftFault, Extents, FreeBits, Resized, RoomFault, SpaceFault, Stream,
+    block_at, grow, last_cluster, put_bytes, put_resized, sized, stream_of, total_clusters,
+};
 pub use held::put_held_bits;
 pub use laws::bitmap_is_put;
-pub use plan_draft::Draft;
 pub use raised::put_raised;
+pub use record_values::{FileRec, placed_fits, valued_record};
 pub use standing::put_bits_of;
-pub use state_model::{ClusterSize, Extents, Stream};

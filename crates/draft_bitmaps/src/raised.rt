@@ -4,23 +4,20 @@ ghost use Rattle.host_base.specs.Answers.{GivesOrFails};
 ghost use Rattle.disk_model.specs.Bytes.{zeros};
 ghost use Rattle.block_view.specs.Views.{AsksView};
 ghost use Rattle.record_model.specs.Pairs.{HasSpelling};
-ghost use Rattle.record_streams.specs.Fitting.{FitsButRoom, IsPlaceable};
-ghost use Rattle.plan_draft.specs.Faults.{fault_cause};
-ghost use Rattle.draft_bits.specs.Filling.{first_past};
-ghost use Rattle.draft_records.specs.Faults.{draft_cause};
-ghost use Rattle.draft_records.specs.Records.{fits_room, StaysWhereFull};
+ghost use Rattle.record_values.specs.record_streams.Fitting.{FitsButRoom, IsPlaceable};
+ghost use Rattle.draft_resized.specs.plan_draft.Faults.{fault_cause};
+ghost use Rattle.draft_resized.specs.draft_bits.Filling.{first_past};
+ghost use Rattle.draft_resized.specs.draft_records.Faults.{draft_cause};
+ghost use Rattle.draft_resized.specs.draft_records.Records.{fits_room, StaysWhereFull};
 ghost use Rattle.draft_bitmaps.specs.Bitmaps.{byte_end, raised, with_initialised, with_extents, with_zeros, PutsPast, PutsRaised};
 
 use crate::bitmap::Bitmap;
 use block_view::{View, ViewFault};
-use draft_bits::put_bits;
-use draft_records::{DraftFault, put_file};
-use draft_streams::put_bytes;
+use draft_resized::{
+    ClusterSize, Draft, DraftFault, Extents, Resized, Stream, put_bits, put_bytes, put_file, sized,
+};
 use host_base::Memory;
-use plan_draft::Draft;
-use record_streams::placed_fits;
-use resized_streams::{Resized, sized};
-use state_model::{ClusterSize, Extents, Stream};
+use record_values::placed_fits;
 use std::alloc::{AllocError, Global};
 
 // So many zeros.

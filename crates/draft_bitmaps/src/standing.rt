@@ -1,11 +1,11 @@
 //! Bits of a bitmap wherever it stands.
 ghost use Rattle.std.specs.Prelude.{◌≡◌, ◌+◌, ◌*◌, ◌<◌, ◌≤◌, ◌^◌, IfErr, IfOk, IfSome, OnErr, OnOk, length};
 ghost use Rattle.host_base.specs.Answers.{GivesOrFails};
-ghost use Rattle.state_model.specs.declared.stream.Stream.TheVariants.{Placed};
+ghost use Rattle.draft_resized.specs.state_model.declared.stream.Stream.TheVariants.{Placed};
 ghost use Rattle.block_view.specs.Views.{AsksView};
-ghost use Rattle.record_streams.specs.Fitting.{FitsButRoom, IsPlaceable};
-ghost use Rattle.draft_records.specs.Faults.{draft_cause};
-ghost use Rattle.draft_records.specs.Records.{StaysWhereFull};
+ghost use Rattle.record_values.specs.record_streams.Fitting.{FitsButRoom, IsPlaceable};
+ghost use Rattle.draft_resized.specs.draft_records.Faults.{draft_cause};
+ghost use Rattle.draft_resized.specs.draft_records.Records.{StaysWhereFull};
 ghost use Rattle.draft_bitmaps.specs.Bitmaps.{is_below, changed_or, bit_count, IsBitmap, IsShortPlaced, PutsBitsOf, PutsPlaced};
 ghost use Rattle.draft_bitmaps.specs.Effects.{room_in, room_of};
 
@@ -13,10 +13,7 @@ use crate::bitmap::Bitmap;
 use crate::held::put_held_bits;
 use crate::raised::{byte_end, put_raised};
 use block_view::View;
-use draft_bits::put_bits;
-use draft_records::DraftFault;
-use plan_draft::Draft;
-use state_model::{ClusterSize, Extents, Stream};
+use draft_resized::{ClusterSize, Draft, DraftFault, Extents, Stream, put_bits};
 use std::alloc::Global;
 
 // Whether the bits lie below the initialised size.

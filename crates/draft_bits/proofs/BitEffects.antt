@@ -3,21 +3,21 @@ use Rattle.std.proofs.Common.{◌≡◌, ◌≢◌, ◌⊎◌, ℕ, ◌+◌, ◌
 use Rattle.std.specs.Prelude.{slice_index, nat_le}
 use Rattle.std.proofs.lemmas.Bool.{cases_lt, lt-ltb, lt-leb}
 use Rattle.std.proofs.lemmas.List.FromFn.{length-map-range_with_len, get_or-map-range_with_len}
-use Rattle.disk_model.specs.declared.block.Block.{Block}
-use Rattle.disk_model.specs.declared.block.BlockKind.TheVariants.{Plain}
-use Rattle.disk_model.specs.Bodies.{BodyOf}
-use Rattle.disk_model.specs.Content.{Content, HasSizes}
-use Rattle.disk_model.specs.Sectors.{same_block}
+use Rattle.draft_streams.specs.disk_model.declared.block.Block.{Block}
+use Rattle.draft_streams.specs.disk_model.declared.block.BlockKind.TheVariants.{Plain}
+use Rattle.draft_streams.specs.disk_model.Bodies.{BodyOf}
+use Rattle.draft_streams.specs.disk_model.Content.{Content, HasSizes}
+use Rattle.draft_streams.specs.disk_model.Sectors.{same_block}
 use Rattle.bit_set.specs.Words.{is_one, byte_bit}
-use Rattle.state_model.specs.declared.stream.Extents.{Extents}
-use Rattle.state_model.specs.Streams.{block_at, byte_at, sector_bytes}
-use Rattle.plan_bodies.specs.Bodies.{AreBodies, body_in, body_or}
-use Rattle.plan_bodies.proofs.Putting.{body_put}
-use Rattle.plan_draft.specs.declared.touched.Touched.{Touched}
-use Rattle.plan_draft.specs.Touching.{bodies_of}
-use Rattle.plan_draft.specs.Drafts.{drafted}
-use Rattle.plan_draft.specs.Writing.{present}
-use Rattle.plan_draft.proofs.Touching.{are_bodies}
+use Rattle.draft_streams.specs.state_model.declared.stream.Extents.{Extents}
+use Rattle.draft_streams.specs.state_model.Streams.{block_at, byte_at, sector_bytes}
+use Rattle.draft_streams.specs.plan_bodies.Bodies.{AreBodies, body_in, body_or}
+use Rattle.draft_streams.proofs.plan_bodies.Putting.{body_put}
+use Rattle.draft_streams.specs.plan_draft.declared.touched.Touched.{Touched}
+use Rattle.draft_streams.specs.plan_draft.Touching.{bodies_of}
+use Rattle.draft_streams.specs.plan_draft.Drafts.{drafted}
+use Rattle.draft_streams.specs.plan_draft.Writing.{present}
+use Rattle.draft_streams.proofs.plan_draft.Touching.{are_bodies}
 use Rattle.draft_streams.specs.Parts.{touch_bytes, first_sector, sector_count}
 use Rattle.draft_streams.specs.Effects.{HasOwnSectors, byte_put, BytesArePut}
 use Rattle.draft_streams.proofs.Effecting.{effects}

@@ -1,2 +1,3 @@
+pub use Rattle.draft_streams.proofs as draft_streams
 pub mod Bitwise
 pub mod BitEffects

@@ -1,17 +1,17 @@
 -- What bits that are put into a bitmap in clusters make of it.
 use Rattle.std.specs.Prelude.{◌≡◌, ◌⊎◌, ℕ, ◌+◌, ◌/◌, ◌%◌, ◌<◌, ◌≤◌, true, false, Bool, All, List, Some}
-use Rattle.disk_model.specs.declared.block.Block.{Block}
-use Rattle.disk_model.specs.declared.block.BlockKind.TheVariants.{Plain}
-use Rattle.disk_model.specs.Content.{Content, HasSizes}
-use Rattle.disk_model.specs.Sectors.{same_block}
-use Rattle.record_model.specs.declared.runs.Run.{Run}
+use Rattle.draft_streams.specs.disk_model.declared.block.Block.{Block}
+use Rattle.draft_streams.specs.disk_model.declared.block.BlockKind.TheVariants.{Plain}
+use Rattle.draft_streams.specs.disk_model.Content.{Content, HasSizes}
+use Rattle.draft_streams.specs.disk_model.Sectors.{same_block}
+use Rattle.draft_streams.specs.record_model.declared.runs.Run.{Run}
 use Rattle.bit_set.specs.Words.{is_one}
-use Rattle.state_model.specs.declared.stream.Extents.{Extents}
-use Rattle.state_model.specs.Streams.{block_at, byte_at}
-use Rattle.plan_bodies.specs.Bodies.{body_in}
-use Rattle.plan_draft.specs.declared.touched.Touched.{Touched}
-use Rattle.plan_draft.specs.Touching.{bodies_of, rises, keys_of, IsWhole}
-use Rattle.plan_draft.specs.Drafts.{drafted}
+use Rattle.draft_streams.specs.state_model.declared.stream.Extents.{Extents}
+use Rattle.draft_streams.specs.state_model.Streams.{block_at, byte_at}
+use Rattle.draft_streams.specs.plan_bodies.Bodies.{body_in}
+use Rattle.draft_streams.specs.plan_draft.declared.touched.Touched.{Touched}
+use Rattle.draft_streams.specs.plan_draft.Touching.{bodies_of, rises, keys_of, IsWhole}
+use Rattle.draft_streams.specs.plan_draft.Drafts.{drafted}
 use Rattle.draft_streams.specs.Effects.{HasOwnSectors}
 use Rattle.draft_bits.specs.Filling.{PutsBits}
 

@@ -1,12 +1,12 @@
 -- Bits of a bitmap that a plan sets or clears.
 use Rattle.std.specs.Prelude.{◌≡◌, ◌⊎◌, ℕ, ◌+◌, ◌-◌, ◌/◌, ◌%◌, ◌<◌, ◌≤◌, Bool, List, length, map}
 use Rattle.std.specs.List.{range_with_len}
-use Rattle.disk_model.specs.Content.{Content}
+use Rattle.draft_streams.specs.disk_model.Content.{Content}
 use Rattle.bit_set.specs.Words.{byte_bit}
-use Rattle.state_model.specs.declared.stream.Extents.{Extents}
-use Rattle.state_model.specs.Streams.{byte_at}
-use Rattle.plan_draft.specs.declared.touched.Touched.{Touched}
-use Rattle.plan_draft.specs.Drafts.{drafted}
+use Rattle.draft_streams.specs.state_model.declared.stream.Extents.{Extents}
+use Rattle.draft_streams.specs.state_model.Streams.{byte_at}
+use Rattle.draft_streams.specs.plan_draft.declared.touched.Touched.{Touched}
+use Rattle.draft_streams.specs.plan_draft.Drafts.{drafted}
 use Rattle.draft_streams.specs.Parts.{touch_bytes, IsFrontOf}
 
 -- the bits from first on, below end, have this value; each other bit and the count of bytes stay

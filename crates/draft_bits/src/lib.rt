@@ -6,9 +6,7 @@ mod bytes;
 mod laws;
 mod putting;
 
-pub use block_view::{View, ViewFault};
 pub use bytes::fill_bits;
+pub use draft_streams::{ClusterSize, Draft, Extents, View, ViewFault, put_bytes};
 pub use laws::bits_are_put;
-pub use plan_draft::Draft;
 pub use putting::put_bits;
-pub use state_model::{ClusterSize, Extents};

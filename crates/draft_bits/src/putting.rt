@@ -1,18 +1,13 @@
 //! Bits that a draft puts into the sectors of a bitmap.
 ghost use Rattle.std.specs.Prelude.{◌≡◌, ◌+◌, ◌-◌, ◌*◌, ◌/◌, ◌%◌, ◌<◌, ◌≤◌, ◌^◌, IfOk, IfSome, OnOk, OnErr, length};
-ghost use Rattle.block_view.specs.Views.{AsksView};
-ghost use Rattle.plan_draft.specs.Drafts.{drafted};
-ghost use Rattle.plan_draft.specs.Faults.{fault_cause};
+ghost use Rattle.draft_streams.specs.block_view.Views.{AsksView};
+ghost use Rattle.draft_streams.specs.plan_draft.Drafts.{drafted};
+ghost use Rattle.draft_streams.specs.plan_draft.Faults.{fault_cause};
 ghost use Rattle.draft_bits.specs.Filling.{byte_count, bytes_from, first_past, AreFilled, PutsBits, PutsFront};
 
 use crate::bytes::fill_bits;
-use block_view::{View, ViewFault};
-use disk_model::Body;
-use draft_streams::put_bytes;
-use plan_draft::Draft;
-use state_model::{ClusterSize, Extents};
+use draft_streams::{Body, ClusterSize, Draft, Extents, View, ViewFault, fill, put_bytes};
 use std::alloc::{AllocError, Global};
-use stream_map::fill;
 
 // So many zeros.
 fn zeros(alloc: Global, count: usize) -> Result<Vec<u8>, AllocError>

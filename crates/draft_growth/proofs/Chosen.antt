@@ -3,10 +3,10 @@ use Rattle.std.proofs.Common.{ℕ, ◌+◌, ◌≤◌, Bool, List, [], ◌∷◌
 use Rattle.std.specs.Prelude.{IfSome, All}
 use Rattle.std.proofs.lemmas.List.Elements.{All-cons, All-nil}
 use Rattle.record_model.specs.declared.runs.Run.{Run}
-use Rattle.space_model.specs.Choosing.{with_run, chosen}
-use Rattle.space_model.specs.Laws.{AreFree}
-use Rattle.space_model.proofs.Searching.{length-with_run}
-use Rattle.space_model.proofs.Lawful.{chosen_are_free}
+use Rattle.draft_bitmaps.specs.space_model.Choosing.{with_run, chosen}
+use Rattle.draft_bitmaps.specs.space_model.Laws.{AreFree}
+use Rattle.draft_bitmaps.proofs.space_model.Searching.{length-with_run}
+use Rattle.draft_bitmaps.proofs.space_model.Lawful.{chosen_are_free}
 use Rattle.draft_growth.specs.Clusters.{IsInside}
 
 free_inside : (limit : ℕ) (bits : List Bool) (vcn : ℕ) (runs : List Run) → length bits ≤ limit → AreFree bits vcn runs → All (IsInside limit) runs

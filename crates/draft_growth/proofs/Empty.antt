@@ -2,8 +2,8 @@
 use Rattle.std.proofs.Common.{◌≡◌, ℕ, suc, ◌+◌, List, Option, Some, None, refl, sym, ap, subst, ◌∙◌, arith}
 use Rattle.std.specs.Prelude.{IfSome}
 use Rattle.disk_model.specs.Content.{Content}
-use Rattle.state_model.specs.declared.stream.Extents.{Extents}
-use Rattle.plan_draft.specs.declared.touched.Touched.{Touched}
+use Rattle.draft_bitmaps.specs.state_model.declared.stream.Extents.{Extents}
+use Rattle.draft_bitmaps.specs.plan_draft.declared.touched.Touched.{Touched}
 use Rattle.draft_growth.specs.Growing.{with_empty, with_empty_records}
 
 none_yet : (c : Content) (per : ℕ) (e : Extents) (body : List ℕ) (first : ℕ) (old : List Touched) → old ≡ with_empty_records c per e body first 0 old

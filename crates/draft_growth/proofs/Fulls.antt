@@ -4,15 +4,15 @@ use Rattle.std.specs.Prelude.{Result, Ok, Err, IfErr}
 use Rattle.host_base.specs.Answers.{ExplainsOrFails}
 use Rattle.record_model.specs.declared.runs.Run.{Run}
 use Rattle.record_model.specs.Records.{Record}
-use Rattle.space_model.specs.Choosing.{chosen}
-use Rattle.stream_runs.specs.Runs.{last_cluster}
-use Rattle.plan_space.specs.declared.fault.SpaceFault.{SpaceFault}
-use Rattle.plan_space.specs.declared.fault.SpaceFault.TheVariants.{Short, Memory}
-use Rattle.resized_streams.specs.declared.resized.Resized.{Resized}
-use Rattle.draft_records.specs.declared.fault.DraftFault.{DraftFault}
-use Rattle.draft_records.specs.declared.fault.DraftFault.TheVariants as draft
-use Rattle.draft_records.specs.Faults.{draft_cause}
-use Rattle.draft_records.specs.Records.{fits_room}
+use Rattle.draft_bitmaps.specs.space_model.Choosing.{chosen}
+use Rattle.draft_bitmaps.specs.stream_runs.Runs.{last_cluster}
+use Rattle.draft_bitmaps.specs.plan_space.declared.fault.SpaceFault.{SpaceFault}
+use Rattle.draft_bitmaps.specs.plan_space.declared.fault.SpaceFault.TheVariants.{Short, Memory}
+use Rattle.draft_bitmaps.specs.resized_streams.declared.resized.Resized.{Resized}
+use Rattle.draft_numbers.specs.draft_records.declared.fault.DraftFault.{DraftFault}
+use Rattle.draft_numbers.specs.draft_records.declared.fault.DraftFault.TheVariants as draft
+use Rattle.draft_numbers.specs.draft_records.Faults.{draft_cause}
+use Rattle.draft_numbers.specs.draft_records.Records.{fits_room}
 use Rattle.draft_bitmaps.specs.declared.bitmap.Bitmap.{Bitmap}
 use Rattle.draft_growth.specs.declared.longer.Longer.{Longer}
 use Rattle.draft_growth.specs.declared.table.Table.{Table}

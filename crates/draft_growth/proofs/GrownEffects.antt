@@ -6,14 +6,14 @@ use Rattle.disk_model.specs.Bodies.{BodyOf}
 use Rattle.disk_model.specs.Bytes.{zeros}
 use Rattle.disk_model.specs.Content.{Content}
 use Rattle.disk_model.specs.Sectors.{same_block}
-use Rattle.state_model.specs.declared.stream.Extents.{Extents}
+use Rattle.draft_bitmaps.specs.state_model.declared.stream.Extents.{Extents}
 use Rattle.plan_bodies.specs.Bodies.{NewBody, body_in}
 use Rattle.plan_bodies.proofs.Putting.{block_itself}
-use Rattle.plan_draft.specs.declared.touched.Touched.{Touched}
-use Rattle.plan_draft.specs.Touching.{bodies_of, touch}
-use Rattle.plan_draft.proofs.Puts.{bodies_touch}
-use Rattle.plan_draft.proofs.Same.{one_in_order}
-use Rattle.draft_records.specs.Records.{record_block, touch_if}
+use Rattle.draft_bitmaps.specs.plan_draft.declared.touched.Touched.{Touched}
+use Rattle.draft_bitmaps.specs.plan_draft.Touching.{bodies_of, touch}
+use Rattle.draft_bitmaps.proofs.plan_draft.Puts.{bodies_touch}
+use Rattle.draft_bitmaps.proofs.plan_draft.Same.{one_in_order}
+use Rattle.draft_numbers.specs.draft_records.Records.{record_block, touch_if}
 use Rattle.draft_growth.specs.Growing.{table_records, record_count, with_empty_records}
 use Rattle.draft_growth.specs.Effects.{HasOwnRecords, GrownIsRead}
 

@@ -4,11 +4,11 @@ use Rattle.std.specs.Prelude.{IfSome, Result, Ok, Err, OnOk}
 use Rattle.disk_model.specs.Bytes.{zeros}
 use Rattle.disk_model.specs.Content.{Content}
 use Rattle.record_model.specs.declared.runs.Run.{Run}
-use Rattle.space_model.specs.Choosing.{chosen, with_runs}
-use Rattle.state_model.specs.declared.stream.Extents.{Extents}
-use Rattle.stream_runs.specs.Runs.{last_cluster}
-use Rattle.plan_draft.specs.declared.touched.Touched.{Touched}
-use Rattle.resized_streams.specs.declared.resized.Resized.{Resized}
+use Rattle.draft_bitmaps.specs.space_model.Choosing.{chosen, with_runs}
+use Rattle.draft_bitmaps.specs.state_model.declared.stream.Extents.{Extents}
+use Rattle.draft_bitmaps.specs.stream_runs.Runs.{last_cluster}
+use Rattle.draft_bitmaps.specs.plan_draft.declared.touched.Touched.{Touched}
+use Rattle.draft_bitmaps.specs.resized_streams.declared.resized.Resized.{Resized}
 use Rattle.draft_bitmaps.specs.declared.bitmap.Bitmap.{Bitmap}
 use Rattle.draft_growth.specs.declared.longer.Longer.{Longer}
 use Rattle.draft_growth.specs.declared.table.Table.{Table}

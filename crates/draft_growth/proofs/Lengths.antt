@@ -3,11 +3,11 @@ use Rattle.std.proofs.Common.{◌≡◌, ℕ, max, List, [], ap, ap₂, ◌∙�
 use Rattle.record_model.specs.Constants.{data_type}
 use Rattle.record_model.specs.declared.runs.Run.{Run}
 use Rattle.record_model.specs.Records.{Record}
-use Rattle.state_model.specs.declared.stream.Extents.{Extents}
-use Rattle.state_model.specs.declared.stream.Stream.TheVariants.{Placed}
-use Rattle.record_streams.specs.Placing.{placed_record}
-use Rattle.resized_streams.specs.declared.resized.Resized.{Resized}
-use Rattle.resized_streams.specs.Resizing.{with_sizes, IsGrown}
+use Rattle.draft_bitmaps.specs.state_model.declared.stream.Extents.{Extents}
+use Rattle.draft_bitmaps.specs.state_model.declared.stream.Stream.TheVariants.{Placed}
+use Rattle.draft_bitmaps.specs.record_streams.Placing.{placed_record}
+use Rattle.draft_bitmaps.specs.resized_streams.declared.resized.Resized.{Resized}
+use Rattle.draft_bitmaps.specs.resized_streams.Resizing.{with_sizes, IsGrown}
 use Rattle.draft_bitmaps.specs.declared.bitmap.Bitmap.{Bitmap}
 use Rattle.draft_growth.specs.declared.table.Table.{Table}
 use Rattle.draft_growth.specs.Growing.{larger, placed_in, roomier, with_room, IsLongerData}

@@ -1,3 +1,6 @@
+pub use Rattle.draft_bitmaps.proofs as draft_bitmaps
+pub use Rattle.draft_bitmaps.proofs.record_streams
+pub use Rattle.draft_bitmaps.proofs.stream_runs
 pub mod Turns
 pub mod Chosen
 pub mod Joining

@@ -5,15 +5,15 @@ use Rattle.std.proofs.lemmas.Bool.{cases_lt, le-leb, lt-leb}
 use Rattle.host_base.specs.Answers.{◌>>=◌, needs, ExplainsOrFails, GivesOrFails}
 use Rattle.record_model.specs.declared.runs.Run.{Run}
 use Rattle.record_model.specs.Records.{Record}
-use Rattle.space_model.specs.Choosing.{with_runs, chosen}
-use Rattle.stream_runs.specs.Runs.{last_cluster}
-use Rattle.state_model.specs.declared.stream.Stream.{Stream}
-use Rattle.plan_space.specs.declared.fault.SpaceFault.{SpaceFault}
-use Rattle.plan_space.specs.declared.fault.SpaceFault.TheVariants.{Short, Memory}
-use Rattle.draft_records.specs.declared.fault.DraftFault.{DraftFault}
-use Rattle.draft_records.specs.declared.fault.DraftFault.TheVariants as draft
+use Rattle.draft_bitmaps.specs.space_model.Choosing.{with_runs, chosen}
+use Rattle.draft_bitmaps.specs.stream_runs.Runs.{last_cluster}
+use Rattle.draft_bitmaps.specs.state_model.declared.stream.Stream.{Stream}
+use Rattle.draft_bitmaps.specs.plan_space.declared.fault.SpaceFault.{SpaceFault}
+use Rattle.draft_bitmaps.specs.plan_space.declared.fault.SpaceFault.TheVariants.{Short, Memory}
+use Rattle.draft_numbers.specs.draft_records.declared.fault.DraftFault.{DraftFault}
+use Rattle.draft_numbers.specs.draft_records.declared.fault.DraftFault.TheVariants as draft
 use Rattle.draft_bitmaps.specs.declared.bitmap.Bitmap.{Bitmap}
-use Rattle.resized_streams.specs.declared.resized.Resized.{Resized}
+use Rattle.draft_bitmaps.specs.resized_streams.declared.resized.Resized.{Resized}
 use Rattle.draft_growth.specs.Faults.{space_cause, growth_space, of_space, of_draft}
 use Rattle.draft_growth.specs.declared.longer.Longer.{Longer}
 use Rattle.draft_growth.specs.declared.table.Table.{Table}

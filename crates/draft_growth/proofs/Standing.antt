@@ -1,11 +1,11 @@
 -- The bounds of the stream that takes clusters, also where that is of a value that leaves its record.
 use Rattle.std.proofs.Common.{◌≡◌, ℕ, ◌^◌, ◌≤◌, max, List, length, subst, arith}
 use Rattle.std.specs.Prelude.{Result, Ok, Err}
-use Rattle.state_model.specs.declared.stream.Extents.{Extents}
-use Rattle.state_model.specs.declared.stream.Stream.{Stream}
-use Rattle.state_model.specs.declared.stream.Stream.TheVariants.{Held, Placed}
-use Rattle.resized_streams.specs.Resizing.{unplaced}
-use Rattle.draft_records.specs.Records.{fits_room}
+use Rattle.draft_bitmaps.specs.state_model.declared.stream.Extents.{Extents}
+use Rattle.draft_bitmaps.specs.state_model.declared.stream.Stream.{Stream}
+use Rattle.draft_bitmaps.specs.state_model.declared.stream.Stream.TheVariants.{Held, Placed}
+use Rattle.draft_bitmaps.specs.resized_streams.Resizing.{unplaced}
+use Rattle.draft_numbers.specs.draft_records.Records.{fits_room}
 use Rattle.draft_bitmaps.specs.declared.bitmap.Bitmap.{Bitmap}
 use Rattle.draft_bitmaps.specs.Bitmaps.{with_value}
 use Rattle.draft_growth.specs.Growing.{filled_up, size_in, standing, standing_in, stays_or_leaves, MayGrow, MayGrowIn}

@@ -5,10 +5,10 @@ use Rattle.std.proofs.lemmas.List.{length-replicate}
 use Rattle.std.proofs.lemmas.List.Elements.{All-nil}
 use Rattle.disk_model.specs.Bytes.{zeros}
 use Rattle.record_model.specs.declared.runs.Run.{Run}
-use Rattle.state_model.specs.declared.stream.Stream.{Stream}
-use Rattle.state_model.specs.declared.stream.Stream.TheVariants.{Held, Placed}
-use Rattle.space_model.specs.Choosing.{with_clusters, with_runs}
-use Rattle.space_model.proofs.Searching.{length-with_run}
+use Rattle.draft_bitmaps.specs.state_model.declared.stream.Stream.{Stream}
+use Rattle.draft_bitmaps.specs.state_model.declared.stream.Stream.TheVariants.{Held, Placed}
+use Rattle.draft_bitmaps.specs.space_model.Choosing.{with_clusters, with_runs}
+use Rattle.draft_bitmaps.proofs.space_model.Searching.{length-with_run}
 use Rattle.draft_bitmaps.specs.declared.bitmap.Bitmap.{Bitmap}
 use Rattle.draft_bitmaps.specs.Bitmaps.{bit_count}
 use Rattle.draft_growth.specs.Clusters.{IsInside}

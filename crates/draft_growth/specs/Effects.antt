@@ -4,11 +4,11 @@ use Rattle.disk_model.specs.declared.block.Block.{Block}
 use Rattle.disk_model.specs.Bytes.{zeros}
 use Rattle.disk_model.specs.Content.{Content}
 use Rattle.disk_model.specs.Sectors.{same_block}
-use Rattle.state_model.specs.declared.stream.Extents.{Extents}
+use Rattle.draft_bitmaps.specs.state_model.declared.stream.Extents.{Extents}
 use Rattle.plan_bodies.specs.Bodies.{body_in}
-use Rattle.plan_draft.specs.declared.touched.Touched.{Touched}
-use Rattle.plan_draft.specs.Touching.{bodies_of}
-use Rattle.draft_records.specs.Records.{record_block}
+use Rattle.draft_bitmaps.specs.plan_draft.declared.touched.Touched.{Touched}
+use Rattle.draft_bitmaps.specs.plan_draft.Touching.{bodies_of}
+use Rattle.draft_numbers.specs.draft_records.Records.{record_block}
 use Rattle.draft_bitmaps.specs.declared.bitmap.Bitmap.{Bitmap}
 use Rattle.draft_growth.specs.declared.table.Table.{Table}
 use Rattle.draft_growth.specs.Growing.{table_records, record_count, GrowsTable}

@@ -1,10 +1,10 @@
 -- Where an error of a file table that grows comes from.
 use Rattle.host_base.specs.Answers.{Cause, refused, no_memory, failed}
 use Rattle.std.specs.Prelude.{ℕ}
-use Rattle.draft_records.specs.declared.fault.DraftFault.{DraftFault}
-use Rattle.draft_records.specs.declared.fault.DraftFault.TheVariants as draft
-use Rattle.plan_space.specs.declared.fault.SpaceFault.{SpaceFault}
-use Rattle.plan_space.specs.declared.fault.SpaceFault.TheVariants as space
+use Rattle.draft_numbers.specs.draft_records.declared.fault.DraftFault.{DraftFault}
+use Rattle.draft_numbers.specs.draft_records.declared.fault.DraftFault.TheVariants as draft
+use Rattle.draft_bitmaps.specs.plan_space.declared.fault.SpaceFault.{SpaceFault}
+use Rattle.draft_bitmaps.specs.plan_space.declared.fault.SpaceFault.TheVariants as space
 use Rattle.draft_growth.specs.declared.fault.GrowthFault.{GrowthFault}
 use Rattle.draft_growth.specs.declared.fault.GrowthFault.TheVariants.{Full, Short, Fault, Memory}
 

@@ -7,18 +7,18 @@ use Rattle.record_model.specs.Constants.{data_type}
 use Rattle.record_model.specs.declared.runs.Run.{Run}
 use Rattle.record_model.specs.Pairs.{cluster_limit, HasSpelling}
 use Rattle.record_model.specs.Records.{Record}
-use Rattle.state_model.specs.declared.stream.Extents.{Extents}
-use Rattle.state_model.specs.declared.stream.Stream.{Stream}
-use Rattle.state_model.specs.declared.stream.Stream.TheVariants.{Held, Placed}
-use Rattle.state_model.specs.Loads.{most_records, total_clusters}
-use Rattle.space_model.specs.Choosing.{chosen, with_runs}
-use Rattle.stream_runs.specs.Runs.{last_cluster}
-use Rattle.record_streams.specs.Placing.{placed_record}
-use Rattle.plan_draft.specs.declared.touched.Touched.{Touched}
-use Rattle.resized_streams.specs.declared.resized.Resized.{Resized}
-use Rattle.resized_streams.specs.Resizing.{lengthened, clusters_for, unplaced, with_sizes}
-use Rattle.draft_streams.specs.Parts.{touch_bytes}
-use Rattle.draft_records.specs.Records.{fits_room, record_block, touch_if}
+use Rattle.draft_bitmaps.specs.state_model.declared.stream.Extents.{Extents}
+use Rattle.draft_bitmaps.specs.state_model.declared.stream.Stream.{Stream}
+use Rattle.draft_bitmaps.specs.state_model.declared.stream.Stream.TheVariants.{Held, Placed}
+use Rattle.draft_bitmaps.specs.state_model.Loads.{most_records, total_clusters}
+use Rattle.draft_bitmaps.specs.space_model.Choosing.{chosen, with_runs}
+use Rattle.draft_bitmaps.specs.stream_runs.Runs.{last_cluster}
+use Rattle.draft_bitmaps.specs.record_streams.Placing.{placed_record}
+use Rattle.draft_bitmaps.specs.plan_draft.declared.touched.Touched.{Touched}
+use Rattle.draft_bitmaps.specs.resized_streams.declared.resized.Resized.{Resized}
+use Rattle.draft_bitmaps.specs.resized_streams.Resizing.{lengthened, clusters_for, unplaced, with_sizes}
+use Rattle.draft_bitmaps.specs.draft_streams.Parts.{touch_bytes}
+use Rattle.draft_numbers.specs.draft_records.Records.{fits_room, record_block, touch_if}
 use Rattle.draft_bitmaps.specs.declared.bitmap.Bitmap.{Bitmap}
 use Rattle.draft_bitmaps.specs.Bitmaps.{with_value, with_record, IsBitmap, PutsBitsOf}
 use Rattle.draft_growth.specs.declared.table.Table.{Table}

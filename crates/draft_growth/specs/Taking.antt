@@ -2,8 +2,8 @@
 use Rattle.std.specs.Prelude.{◌≡◌, ℕ, true, List, Option, MatchOption}
 use Rattle.host_base.specs.declared.file_ref.FileRef.{FileRef}
 use Rattle.disk_model.specs.Content.{Content}
-use Rattle.state_model.specs.declared.stream.Extents.{Extents}
-use Rattle.plan_draft.specs.declared.touched.Touched.{Touched}
+use Rattle.draft_bitmaps.specs.state_model.declared.stream.Extents.{Extents}
+use Rattle.draft_bitmaps.specs.plan_draft.declared.touched.Touched.{Touched}
 use Rattle.draft_bitmaps.specs.declared.bitmap.Bitmap.{Bitmap}
 use Rattle.draft_bitmaps.specs.Bitmaps.{PutsBitsOf}
 

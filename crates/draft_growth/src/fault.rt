@@ -1,7 +1,7 @@
 ghost use Rattle.std.specs.Prelude.{◌≡◌};
 
-use draft_records::DraftFault;
-use plan_space::SpaceFault;
+use draft_bitmaps::SpaceFault;
+use draft_numbers::DraftFault;
 use thiserror::Error;
 
 /// Why a file table doesn't grow.

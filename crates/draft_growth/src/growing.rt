@@ -2,10 +2,10 @@
 ghost use Rattle.std.specs.Prelude.{◌≡◌, ◌+◌, ◌/◌, ◌<◌, ◌≤◌, ◌^◌, true, false, Err, All, IfOk, IfErr, IfSome, OnOk, not, count_by, length};
 ghost use Rattle.host_base.specs.Answers.{GivesOrFails};
 ghost use Rattle.block_view.specs.Views.{AsksView};
-ghost use Rattle.stream_runs.specs.Runs.{IsNear};
-ghost use Rattle.plan_draft.specs.Faults.{fault_cause};
-ghost use Rattle.draft_records.specs.Faults.{draft_cause};
-ghost use Rattle.draft_records.specs.Records.{fits_room};
+ghost use Rattle.draft_bitmaps.specs.stream_runs.Runs.{IsNear};
+ghost use Rattle.draft_bitmaps.specs.plan_draft.Faults.{fault_cause};
+ghost use Rattle.draft_numbers.specs.draft_records.Faults.{draft_cause};
+ghost use Rattle.draft_numbers.specs.draft_records.Records.{fits_room};
 ghost use Rattle.draft_bitmaps.specs.Bitmaps.{bit_count, IsBitmap};
 ghost use Rattle.draft_growth.specs.declared.fault.GrowthFault.TheVariants.{Short};
 ghost use Rattle.draft_growth.specs.Faults.{growth_cause, growth_space, growth_room};
@@ -18,16 +18,13 @@ use crate::runs::put_runs_of;
 use crate::table::Table;
 use crate::zeros::put_empty_records;
 use block_view::{View, ViewFault};
-use draft_bitmaps::{Bitmap, put_bits_of};
-use draft_records::{DraftFault, put_file};
-use draft_streams::put_bytes;
-use file_record::FileRec;
+use draft_bitmaps::{
+    Bitmap, ClusterSize, Draft, Extents, FileRec, FreeBits, Stream, placed_fits, put_bits_of,
+    put_bytes,
+};
+use draft_numbers::{DraftFault, put_file};
 use host_base::Bytes;
-use plan_draft::Draft;
-use plan_space::FreeBits;
 use record_model::Run;
-use record_streams::placed_fits;
-use state_model::{ClusterSize, Extents, Stream};
 use std::alloc::Global;
 
 // How many records the file table grows by.

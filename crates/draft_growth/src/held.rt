@@ -3,28 +3,25 @@
 ghost use Rattle.std.specs.Prelude.{◌≡◌, ◌+◌, ◌-◌, ◌≤◌, ◌^◌, [], All, IfOk, length};
 ghost use Rattle.host_base.specs.Answers.{GivesOrFails};
 ghost use Rattle.record_model.specs.Pairs.{cluster_limit};
-ghost use Rattle.record_streams.specs.Fitting.{FitsButRoom};
-ghost use Rattle.space_model.specs.Choosing.{with_runs};
-ghost use Rattle.state_model.specs.declared.stream.Stream.TheVariants.{Held, Placed};
-ghost use Rattle.stream_runs.specs.Runs.{IsNear};
-ghost use Rattle.resized_streams.specs.Resizing.{unplaced};
-ghost use Rattle.draft_records.specs.Records.{fits_room};
+ghost use Rattle.draft_bitmaps.specs.record_streams.Fitting.{FitsButRoom};
+ghost use Rattle.draft_bitmaps.specs.space_model.Choosing.{with_runs};
+ghost use Rattle.draft_bitmaps.specs.state_model.declared.stream.Stream.TheVariants.{Held, Placed};
+ghost use Rattle.draft_bitmaps.specs.stream_runs.Runs.{IsNear};
+ghost use Rattle.draft_bitmaps.specs.resized_streams.Resizing.{unplaced};
+ghost use Rattle.draft_numbers.specs.draft_records.Records.{fits_room};
 ghost use Rattle.draft_bitmaps.specs.Bitmaps.{with_value, IsBitmap};
 ghost use Rattle.draft_growth.specs.Faults.{space_cause};
 ghost use Rattle.draft_growth.specs.Growing.{filled_up, has_room, more_for, space_for, standing, wanted_for, with_room, IsLonger};
 
 use crate::longer::{Longer, longer_placed};
 use crate::zeros::zero_bytes;
-use draft_bitmaps::Bitmap;
-use draft_records::written_file;
-use file_record::FileRec;
+use draft_bitmaps::{
+    Bitmap, ClusterSize, Extents, FileRec, FreeBits, RoomFault, SpaceFault, Stream, placed_fits,
+    valued_record,
+};
+use draft_numbers::written_file;
 use host_base::Bytes;
-use plan_space::{FreeBits, SpaceFault};
 use record_model::{Run, Runs};
-use record_streams::placed_fits;
-use record_values::valued_record;
-use record_writer::RoomFault;
-use state_model::{ClusterSize, Extents, Stream};
 use std::alloc::{AllocError, Global};
 
 // A copy of the value with zeros behind it, so that it has as many bytes.

@@ -3,29 +3,28 @@
 ghost use Rattle.std.specs.Prelude.{◌≡◌, ◌+◌, ◌-◌, ◌*◌, ◌/◌, ◌<◌, ◌≤◌, ◌^◌, [], ◌++◌, Err, All, IfOk, IfErr, not, max, count_by, length};
 ghost use Rattle.host_base.specs.Answers.{GivesOrFails};
 ghost use Rattle.record_model.specs.Pairs.{cluster_limit, HasSpelling};
-ghost use Rattle.record_streams.specs.Fitting.{FitsButRoom};
-ghost use Rattle.space_model.specs.Choosing.{chosen, with_runs};
-ghost use Rattle.plan_space.specs.declared.fault.SpaceFault.TheVariants.{Short, Memory as no_memory};
-ghost use Rattle.stream_runs.specs.Runs.{last_cluster, IsNear};
-ghost use Rattle.state_model.specs.Loads.{total_clusters};
+ghost use Rattle.draft_bitmaps.specs.record_streams.Fitting.{FitsButRoom};
+ghost use Rattle.draft_bitmaps.specs.space_model.Choosing.{chosen, with_runs};
+ghost use Rattle.draft_bitmaps.specs.plan_space.declared.fault.SpaceFault.TheVariants.{Short, Memory as no_memory};
+ghost use Rattle.draft_bitmaps.specs.stream_runs.Runs.{last_cluster, IsNear};
+ghost use Rattle.draft_bitmaps.specs.state_model.Loads.{total_clusters};
 ghost use Rattle.record_model.specs.Constants.{data_type};
-ghost use Rattle.record_streams.specs.Placing.{placed_record};
-ghost use Rattle.resized_streams.specs.Resizing.{clusters_for, with_sizes, IsGrown};
+ghost use Rattle.draft_bitmaps.specs.record_streams.Placing.{placed_record};
+ghost use Rattle.draft_bitmaps.specs.resized_streams.Resizing.{clusters_for, with_sizes, IsGrown};
 ghost use Rattle.draft_bitmaps.specs.Bitmaps.{IsBitmap};
-ghost use Rattle.state_model.specs.declared.stream.Stream.TheVariants.{Held, Placed};
+ghost use Rattle.draft_bitmaps.specs.state_model.declared.stream.Stream.TheVariants.{Held, Placed};
 ghost use Rattle.draft_growth.specs.Faults.{space_cause};
 ghost use Rattle.draft_growth.specs.Growing.{size_in, standing, wanted_for, space_for, table_clusters, larger, placed_in, roomier, with_room, more_for, MayGrow, MayGrowIn, IsTable, IsLonger, IsLongerData};
 
 use crate::held::longer_held;
 use crate::table::Table;
-use draft_bitmaps::Bitmap;
+use draft_bitmaps::{
+    Bitmap, ClusterSize, Extents, FreeBits, Resized, SpaceFault, Stream, grow, sized,
+    total_clusters,
+};
 use host_base::{Bytes, Memory};
-use plan_space::{FreeBits, SpaceFault};
 use record_model::{DATA, Run};
-use resized_streams::{Resized, grow, sized};
-use state_model::{ClusterSize, Extents, Stream};
 use std::alloc::Global;
-use stream_runs::total_clusters;
 
 /// A bitmap that has become longer, the clusters that it took, and the bytes that left its record
 /// for them.

@@ -1,8 +1,8 @@
 //! Numbers that are taken of a table whose bitmap stands anywhere.
 ghost use Rattle.std.specs.Prelude.{◌≡◌, ◌<◌, ◌≤◌, ◌^◌, IfOk, IfSome, OnErr, length};
 ghost use Rattle.block_view.specs.Views.{AsksView};
-ghost use Rattle.plan_draft.specs.Drafts.{drafted};
-ghost use Rattle.draft_records.specs.Faults.{draft_cause};
+ghost use Rattle.draft_bitmaps.specs.plan_draft.Drafts.{drafted};
+ghost use Rattle.draft_numbers.specs.draft_records.Faults.{draft_cause};
 ghost use Rattle.draft_numbers.specs.Numbers.{new_sequence, IsLowestSpare, MarksNumber};
 ghost use Rattle.draft_bitmaps.specs.Bitmaps.{bit_count, IsBitmap};
 ghost use Rattle.draft_growth.specs.Taking.{PutsNumberOf};
@@ -10,12 +10,9 @@ ghost use Rattle.draft_growth.specs.Taking.{PutsNumberOf};
 use crate::table::Table;
 use bit_set::BitSet;
 use block_view::View;
-use draft_bitmaps::put_bits_of;
-use draft_numbers::spare_number;
-use draft_records::DraftFault;
+use draft_bitmaps::{ClusterSize, Draft, Extents, put_bits_of};
+use draft_numbers::{DraftFault, spare_number};
 use host_base::FileRef;
-use plan_draft::Draft;
-use state_model::{ClusterSize, Extents};
 use std::alloc::Global;
 
 /// Takes the lowest spare number ([`spare_number`]) of a table whose bitmap stands anywhere: its bit

@@ -1,17 +1,15 @@
 //! Bits of the clusters of runs, in a bitmap wherever it stands.
 ghost use Rattle.std.specs.Prelude.{◌≡◌, ◌+◌, ◌<◌, ◌≤◌, ◌^◌, All, IfSome, OnOk};
 ghost use Rattle.block_view.specs.Views.{AsksView};
-ghost use Rattle.stream_runs.specs.Runs.{IsNear};
-ghost use Rattle.draft_records.specs.Faults.{draft_cause};
+ghost use Rattle.draft_bitmaps.specs.stream_runs.Runs.{IsNear};
+ghost use Rattle.draft_numbers.specs.draft_records.Faults.{draft_cause};
 ghost use Rattle.draft_bitmaps.specs.Bitmaps.{bit_count, IsBitmap};
 ghost use Rattle.draft_growth.specs.Clusters.{IsInside, PutsClustersOf, PutsRunsOf};
 
 use block_view::View;
-use draft_bitmaps::{Bitmap, put_bits_of};
-use draft_records::DraftFault;
-use plan_draft::Draft;
+use draft_bitmaps::{Bitmap, ClusterSize, Draft, Extents, put_bits_of};
+use draft_numbers::DraftFault;
 use record_model::Run;
-use state_model::{ClusterSize, Extents};
 use std::alloc::Global;
 
 // Puts the bits of so many clusters from this one on, if there is one.

@@ -2,8 +2,7 @@
 ghost use Rattle.std.specs.Prelude.{◌≡◌, ◌↔◌, true};
 ghost use Rattle.draft_growth.specs.Growing.{MayHaveMore};
 
-use draft_bitmaps::Bitmap;
-use state_model::Extents;
+use draft_bitmaps::{Bitmap, Extents};
 
 /// The file table of a volume as a plan has it: where its records lie, and the bitmap of its
 /// numbers, which is a stream of record 0 as the records are (Linux-NTFS documentation, "$MFT").

@@ -2,15 +2,13 @@
 ghost use Rattle.std.specs.Prelude.{◌≡◌, ◌+◌, ◌<◌, ◌^◌, IfOk, IfSome, OnOk, length};
 ghost use Rattle.disk_model.specs.Bytes.{zeros};
 ghost use Rattle.block_view.specs.Views.{AsksView};
-ghost use Rattle.plan_draft.specs.Faults.{fault_cause};
+ghost use Rattle.draft_bitmaps.specs.plan_draft.Faults.{fault_cause};
 ghost use Rattle.draft_growth.specs.Growing.{with_empty, with_empty_records};
 
 use block_view::{View, ViewFault};
 use disk_model::BlockKind;
-use plan_draft::Draft;
-use state_model::{ClusterSize, Extents};
+use draft_bitmaps::{ClusterSize, Draft, Extents, block_at};
 use std::alloc::{AllocError, Global};
-use stream_map::block_at;
 
 // So many zeros, as in the body of a record that was never used.
 #[tactic(auto, unfolding(disk_model::specs::Bytes::zeros))]

@@ -7,10 +7,10 @@ use Rattle.disk_model.specs.Bytes.{zeros}
 use Rattle.disk_model.specs.Content.{Content}
 use Rattle.state_model.specs.declared.stream.Extents.{Extents}
 use Rattle.plan_draft.specs.declared.touched.Touched.{Touched}
-use Rattle.resized_streams.specs.declared.resized.Resized.{Resized}
-use Rattle.draft_records.specs.Faults.{of_view}
-use Rattle.draft_records.specs.Records.{StaysWhereFull}
-use Rattle.draft_resized.specs.Resized.{PutsResized}
+use Rattle.draft_growth.specs.resized_streams.declared.resized.Resized.{Resized}
+use Rattle.draft_growth.specs.draft_records.Faults.{of_view}
+use Rattle.draft_growth.specs.draft_records.Records.{StaysWhereFull}
+use Rattle.draft_growth.specs.draft_resized.Resized.{PutsResized}
 use Rattle.draft_indexes.specs.Growing.{with_blocks, PutsIndex}
 
 pub index_put : (content : Option Content) (per : ℕ) (bitmap table mirror : Extents) (n : ℕ) (z : Resized) (first count : ℕ) (old mid new : List Touched) → IfSome content (λ c. PutsResized c per bitmap table mirror n z old mid)

@@ -12,14 +12,14 @@ use Rattle.state_model.specs.Loads.{total_clusters}
 use Rattle.state_model.specs.Streams.{block_at}
 use Rattle.space_model.specs.Choosing.{chosen}
 use Rattle.stream_runs.specs.Runs.{last_cluster}
-use Rattle.record_streams.specs.Fitting.{FitsButRoom}
-use Rattle.record_streams.specs.Placing.{placed_record}
-use Rattle.record_values.specs.Values.{valued_record}
+use Rattle.draft_growth.specs.record_streams.Fitting.{FitsButRoom}
+use Rattle.draft_growth.specs.record_streams.Placing.{placed_record}
+use Rattle.draft_growth.specs.record_values.Values.{valued_record}
 use Rattle.plan_draft.specs.declared.touched.Touched.{Touched}
-use Rattle.resized_streams.specs.declared.resized.Resized.{Resized}
-use Rattle.resized_streams.specs.Resizing.{lengthened, clusters_for, with_sizes}
-use Rattle.draft_records.specs.Records.{touch_if}
-use Rattle.draft_resized.specs.Resized.{PutsResized}
+use Rattle.draft_growth.specs.resized_streams.declared.resized.Resized.{Resized}
+use Rattle.draft_growth.specs.resized_streams.Resizing.{lengthened, clusters_for, with_sizes}
+use Rattle.draft_growth.specs.draft_records.Records.{touch_if}
+use Rattle.draft_growth.specs.draft_resized.Resized.{PutsResized}
 use Rattle.draft_growth.specs.declared.fault.GrowthFault.{GrowthFault}
 use Rattle.draft_growth.specs.declared.fault.GrowthFault.TheVariants.{Full, Short, Fault, Memory}
 use Rattle.draft_indexes.specs.declared.blocks.IndexBlocks.{IndexBlocks}

@@ -13,9 +13,8 @@ mod longer;
 
 pub use block_view::View;
 pub use blocks::IndexBlocks;
-pub use draft_growth::GrowthFault;
+pub use draft_growth::{GrowthFault, Resized};
 pub use growing::grow_blocks;
 pub use plan_draft::Draft;
 pub use plan_space::FreeBits;
-pub use resized_streams::Resized;
 pub use state_model::{ClusterSize, Extents};

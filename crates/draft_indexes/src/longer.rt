@@ -2,20 +2,19 @@
 ghost use Rattle.std.specs.Prelude.{◌≡◌, ◌+◌, ◌-◌, ◌<◌, ◌≤◌, ◌^◌, ◌++◌, All, IfOk, IfErr, Err, not, count_by, length};
 ghost use Rattle.disk_model.specs.Bytes.{zeros};
 ghost use Rattle.record_model.specs.Constants.{bitmap_type, names_index};
-ghost use Rattle.record_streams.specs.Fitting.{FitsButRoom};
-ghost use Rattle.record_values.specs.Values.{valued_record};
-ghost use Rattle.resized_streams.specs.Resizing.{clusters_for, with_sizes};
+ghost use Rattle.draft_growth.specs.record_streams.Fitting.{FitsButRoom};
+ghost use Rattle.draft_growth.specs.record_values.Values.{valued_record};
+ghost use Rattle.draft_growth.specs.resized_streams.Resizing.{clusters_for, with_sizes};
 ghost use Rattle.plan_space.specs.declared.fault.SpaceFault.TheVariants.{Short, Memory as no_memory};
 ghost use Rattle.space_model.specs.Choosing.{with_runs};
 ghost use Rattle.stream_runs.specs.Runs.{IsNear};
 ghost use Rattle.draft_indexes.specs.Growing.{bits_size, wanted_clusters, taken_for, MayGrowBlocks, IsLongerIndex};
 
 use crate::blocks::IndexBlocks;
+use draft_growth::{Resized, grow, valued_record};
 use host_base::{Bytes, Memory};
 use plan_space::{FreeBits, SpaceFault};
 use record_model::{BITMAP_TYPE, INDEX_ALLOCATION, NAMES_INDEX};
-use record_values::valued_record;
-use resized_streams::{Resized, grow};
 use state_model::{ClusterSize, Extents};
 use std::alloc::{AllocError, Global};
 use stream_runs::total_clusters;

@@ -5,11 +5,11 @@ use Rattle.host_base.specs.declared.file_ref.FileRef.{FileRef}
 use Rattle.disk_model.specs.declared.block.Block.{Block}
 use Rattle.disk_model.specs.Content.{Content}
 use Rattle.bit_set.specs.Bits.{bit}
-use Rattle.state_model.specs.declared.stream.Extents.{Extents}
+use Rattle.draft_records.specs.state_model.declared.stream.Extents.{Extents}
 use Rattle.volume_model.specs.Volumes.{Volume, record_bits, record_block as volume_block, record_bytes, block_bytes}
 use Rattle.volume_model.specs.Nodes.{spare_sequence, spare_at}
-use Rattle.plan_draft.specs.declared.touched.Touched.{Touched}
-use Rattle.plan_draft.specs.Drafts.{drafted}
+use Rattle.draft_records.specs.plan_draft.declared.touched.Touched.{Touched}
+use Rattle.draft_records.specs.plan_draft.Drafts.{drafted}
 use Rattle.draft_records.specs.Records.{record_block, is_past}
 use Rattle.draft_numbers.specs.Numbers.{number_bytes, new_sequence, SparesAreThose}
 

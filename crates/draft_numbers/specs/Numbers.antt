@@ -4,11 +4,11 @@ use Rattle.std.specs.Prelude.{MatchOption}
 use Rattle.host_base.specs.declared.file_ref.FileRef.{FileRef}
 use Rattle.disk_model.specs.Content.{Content}
 use Rattle.bit_set.specs.Bits.{bit, IsLowestClear, PutsRun}
-use Rattle.state_model.specs.declared.stream.Extents.{Extents}
+use Rattle.draft_records.specs.state_model.declared.stream.Extents.{Extents}
 use Rattle.file_tree.specs.Walks.{first_user_record}
 use Rattle.volume_model.specs.Volumes.{Volume, record_bits, block_bytes}
 use Rattle.volume_model.specs.Nodes.{spare_sequence, spare_at}
-use Rattle.plan_draft.specs.declared.touched.Touched.{Touched}
+use Rattle.draft_records.specs.plan_draft.declared.touched.Touched.{Touched}
 use Rattle.draft_bits.specs.Filling.{PutsBits, PutsFront}
 use Rattle.draft_records.specs.Records.{record_block, is_past}
 

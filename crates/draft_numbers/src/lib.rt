@@ -6,8 +6,11 @@ mod numbers;
 
 pub use bit_set::BitSet;
 pub use block_view::{View, ViewFault};
+pub use draft_bits::put_bits;
+pub use draft_records::{
+    ClusterSize, Draft, DraftFault, Extents, is_past, put_file, spelled_fits_but_room,
+    spelled_fits_by_room, written_file,
+};
 pub use host_base::FileRef;
 pub use laws::spares_are_those;
 pub use numbers::{spare_number, take_number};
-pub use plan_draft::Draft;
-pub use state_model::{ClusterSize, Extents};

@@ -2,21 +2,18 @@
 ghost use Rattle.std.specs.Prelude.{◌≡◌, ◌+◌, ◌*◌, ◌<◌, ◌≤◌, ◌^◌, true, IfOk, IfSome, OnOk, OnErr, length};
 ghost use Rattle.block_view.specs.Views.{AsksView};
 ghost use Rattle.volume_model.specs.Nodes.{spare_sequence};
-ghost use Rattle.plan_draft.specs.Drafts.{drafted};
-ghost use Rattle.plan_draft.specs.Faults.{fault_cause};
+ghost use Rattle.draft_records.specs.plan_draft.Drafts.{drafted};
+ghost use Rattle.draft_records.specs.plan_draft.Faults.{fault_cause};
 ghost use Rattle.draft_numbers.specs.Numbers.{new_sequence, IsLowestSpare, MarksNumber, PutsNumber, PutsNumberFront};
 
 use bit_set::BitSet;
 use block_view::{View, ViewFault};
 use disk_model::{Block, BlockKind, Body, u16_at};
 use draft_bits::put_bits;
-use draft_records::is_past;
+use draft_records::{ClusterSize, Draft, Extents, block_at, is_past};
 use file_tree::FIRST_USER_RECORD;
 use host_base::FileRef;
-use plan_draft::Draft;
-use state_model::{ClusterSize, Extents};
 use std::alloc::Global;
-use stream_map::block_at;
 
 // The sequence that a new file would get in a record with these bytes.
 #[tactic(auto, unfolding(volume_model::specs::Nodes::spare_sequence))]

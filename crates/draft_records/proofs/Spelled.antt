@@ -3,15 +3,15 @@ use Rattle.std.proofs.Common.{◌≡◌, ℕ, ◌+◌, ◌-◌, ◌%◌, ◌≤�
 use Rattle.std.specs.Prelude.{map, All}
 use Rattle.std.proofs.lemmas.List.{append-nil}
 use Rattle.std.proofs.lemmas.List.Elements.{All-head, All-tail, recursion_from_All}
-use Rattle.disk_model.specs.Bytes.{up8, zeros}
+use Rattle.record_model.specs.disk_model.Bytes.{up8, zeros}
 use Rattle.record_model.specs.declared.attribute.Attr.{Attr}
 use Rattle.record_model.specs.declared.attribute.OwnForm.{OwnForm}
 use Rattle.record_model.specs.declared.attribute.OwnForm.TheVariants.{Resident, Mapped}
 use Rattle.record_model.specs.Attributes.{filled, FitsAttr, FitsForm}
 use Rattle.record_model.specs.Records.{used_of, FitsRecord}
-use Rattle.record_writer.specs.Normal.{normal, normal_form}
-use Rattle.record_writer.proofs.Measures.{spelled_count}
-use Rattle.record_streams.proofs.Read.{shorts}
+use Rattle.resized_streams.specs.record_writer.Normal.{normal, normal_form}
+use Rattle.resized_streams.proofs.record_writer.Measures.{spelled_count}
+use Rattle.resized_streams.proofs.record_streams.Read.{shorts}
 use Rattle.draft_records.specs.Records.{SpelledFitsByRoom, SpelledFitsButRoom}
 
 pairs_same : (pairs : List ℕ) → length pairs % 8 ≡ 0 → filled 0 pairs ≡ pairs

@@ -1,9 +1,9 @@
 -- What a table has as a record in use is read as this record.
 use Rattle.std.proofs.Common.{◌≡◌, ℕ, Bool, true, false, cond, List, Option, Some, None, Result, Ok, Err, ap, ◌∙◌}
-use Rattle.host_base.specs.Answers.{◌>>=◌, needs}
-use Rattle.disk_model.specs.declared.block.Block.{Block}
-use Rattle.disk_model.specs.Bodies.{BodyOf}
-use Rattle.disk_model.specs.Content.{Content}
+use Rattle.resized_streams.specs.host_base.Answers.{◌>>=◌, needs}
+use Rattle.record_model.specs.disk_model.declared.block.Block.{Block}
+use Rattle.record_model.specs.disk_model.Bodies.{BodyOf}
+use Rattle.record_model.specs.disk_model.Content.{Content}
 use Rattle.record_model.specs.Records.{Record, record_at, shaped_at, has_lawful_values}
 use Rattle.record_model.proofs.Shapes.{is_shaped}
 use Rattle.state_model.specs.Loads.{Slot, Torn, Free, slot_in, slot_by, slot_of, slot_at, is_used, used_record, whole_record, has_all_pairs, table_slot}

@@ -7,9 +7,9 @@ use Rattle.std.proofs.lemmas.Bool.{cases_lt, le-leb, lt-leb}
 use Rattle.record_model.specs.declared.attribute.Attr.{Attr}
 use Rattle.record_model.specs.Records.{Record, used_of, record_spelling, FitsRecord}
 use Rattle.record_model.proofs.RecordSpelling.{length-record_spelling}
-use Rattle.record_writer.specs.Normal.{normal, normal_record}
-use Rattle.record_writer.specs.NormalLaws.{FitsByRoom}
-use Rattle.record_writer.proofs.Measures.{spelled_count}
+use Rattle.resized_streams.specs.record_writer.Normal.{normal, normal_record}
+use Rattle.resized_streams.specs.record_writer.NormalLaws.{FitsByRoom}
+use Rattle.resized_streams.proofs.record_writer.Measures.{spelled_count}
 use Rattle.draft_records.specs.Records.{is_name, name_count, with_normal, written_record, written_bytes, fits_room, body_of_record}
 
 -- ---- how many attributes there are

@@ -1,10 +1,10 @@
 -- Where an error of a call that puts a record comes from.
 use Rattle.std.specs.Prelude.{ℕ}
-use Rattle.host_base.specs.Answers.{Cause, refused, no_memory, failed}
-use Rattle.block_view.specs.declared.fault.ViewFault.{ViewFault}
-use Rattle.block_view.specs.declared.fault.ViewFault.TheVariants as view
-use Rattle.record_writer.specs.declared.fault.RoomFault.{RoomFault}
-use Rattle.record_writer.specs.declared.fault.RoomFault.TheVariants as room
+use Rattle.resized_streams.specs.host_base.Answers.{Cause, refused, no_memory, failed}
+use Rattle.plan_draft.specs.block_view.declared.fault.ViewFault.{ViewFault}
+use Rattle.plan_draft.specs.block_view.declared.fault.ViewFault.TheVariants as view
+use Rattle.resized_streams.specs.record_writer.declared.fault.RoomFault.{RoomFault}
+use Rattle.resized_streams.specs.record_writer.declared.fault.RoomFault.TheVariants as room
 use Rattle.draft_records.specs.declared.fault.DraftFault.{DraftFault}
 use Rattle.draft_records.specs.declared.fault.DraftFault.TheVariants.{Full, Fault, Memory}
 

@@ -1,20 +1,20 @@
 -- File records that a plan reads and puts.
 use Rattle.std.specs.Prelude.{◌≡◌, ◌⊎◌, ℕ, ◌*◌, ◌/◌, ◌&&◌, ◌==◌, nat_le, nat_lt, if◌then◌else◌, Bool, List, map, count_by, Option, Some, None, Result, Ok, ◌++◌, ⊤}
-use Rattle.host_base.specs.Answers.{◌>>=◌, needs}
-use Rattle.disk_model.specs.declared.block.Block.{Block}
-use Rattle.disk_model.specs.declared.block.BlockKind.TheVariants.{FileRec}
-use Rattle.disk_model.specs.Content.{Content}
+use Rattle.resized_streams.specs.host_base.Answers.{◌>>=◌, needs}
+use Rattle.record_model.specs.disk_model.declared.block.Block.{Block}
+use Rattle.record_model.specs.disk_model.declared.block.BlockKind.TheVariants.{FileRec}
+use Rattle.record_model.specs.disk_model.Content.{Content}
 use Rattle.record_model.specs.declared.attribute.Attr.{Attr}
 use Rattle.record_model.specs.declared.record.RecHead.{RecHead}
 use Rattle.record_model.specs.Constants.{file_name}
 use Rattle.record_model.specs.Records.{Record, record_at, record_spelling, used_of, FitsRecord}
-use Rattle.record_writer.specs.Normal.{normal}
-use Rattle.record_writer.specs.NormalLaws.{FitsByRoom}
-use Rattle.record_streams.specs.Fitting.{FitsButRoom}
+use Rattle.resized_streams.specs.record_writer.Normal.{normal}
+use Rattle.resized_streams.specs.record_writer.NormalLaws.{FitsByRoom}
+use Rattle.resized_streams.specs.record_streams.Fitting.{FitsButRoom}
 use Rattle.state_model.specs.declared.stream.Extents.{Extents}
 use Rattle.state_model.specs.Loads.{slot_by, used_record, table_slot}
 use Rattle.state_model.specs.Streams.{block_at}
-use Rattle.plan_bodies.specs.Bodies.{NewBody}
+use Rattle.plan_draft.specs.plan_bodies.Bodies.{NewBody}
 use Rattle.plan_draft.specs.declared.touched.Touched.{Touched}
 use Rattle.plan_draft.specs.Touching.{put_in_order, touch}
 use Rattle.draft_records.specs.declared.fault.DraftFault.{DraftFault}

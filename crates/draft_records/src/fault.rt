@@ -1,7 +1,7 @@
 ghost use Rattle.std.specs.Prelude.{◌≡◌};
 
-use block_view::ViewFault;
-use record_writer::RoomFault;
+use plan_draft::ViewFault;
+use resized_streams::RoomFault;
 use std::alloc::AllocError;
 use thiserror::Error;
 

@@ -1,9 +1,9 @@
 //! File records that a draft puts.
 ghost use Rattle.std.specs.Prelude.{◌≡◌, ◌*◌, ◌/◌, ◌<◌, ◌≤◌, ◌^◌, IfErr, IfOk, IfSome, OnOk, OnErr, length};
-ghost use Rattle.host_base.specs.Answers.{GivesOrFails};
-ghost use Rattle.block_view.specs.Views.{AsksView};
+ghost use Rattle.resized_streams.specs.host_base.Answers.{GivesOrFails};
+ghost use Rattle.plan_draft.specs.block_view.Views.{AsksView};
 ghost use Rattle.record_model.specs.Records.{record_spelling};
-ghost use Rattle.record_writer.specs.NormalLaws.{FitsByRoom};
+ghost use Rattle.resized_streams.specs.record_writer.NormalLaws.{FitsByRoom};
 ghost use Rattle.plan_draft.specs.Touching.{bodies_of};
 ghost use Rattle.plan_draft.specs.Faults.{fault_cause};
 ghost use Rattle.draft_records.specs.Faults.{draft_cause};
@@ -12,13 +12,10 @@ ghost use Rattle.draft_records.specs.Records.{record_block, has_mirror, written_
 use crate::fault::DraftFault;
 use crate::reading::is_past;
 use crate::records::written_body;
-use block_view::{View, ViewFault};
-use disk_model::BlockKind;
-use file_record::FileRec;
-use plan_draft::Draft;
+use plan_draft::{BlockKind, Draft, View, ViewFault};
+use resized_streams::{FileRec, block_at};
 use state_model::{ClusterSize, Extents};
 use std::alloc::Global;
-use stream_map::block_at;
 
 // Whether the table's mirror has this record.
 fn has_mirror(mirror: &Extents, number: u64) -> bool

@@ -1,22 +1,18 @@
 //! File records as they are now in a draft.
 ghost use Rattle.std.specs.Prelude.{◌≡◌, ◌*◌, ◌<◌, ◌≤◌, ◌^◌, IfOk, IfSome, length};
-ghost use Rattle.block_view.specs.Views.{AsksView};
+ghost use Rattle.plan_draft.specs.block_view.Views.{AsksView};
 ghost use Rattle.state_model.specs.Loads.{table_extents};
 ghost use Rattle.plan_draft.specs.Drafts.{drafted};
 ghost use Rattle.plan_draft.specs.Faults.{fault_cause};
-ghost use Rattle.record_streams.specs.Fitting.{FitsButRoom};
+ghost use Rattle.resized_streams.specs.record_streams.Fitting.{FitsButRoom};
 ghost use Rattle.draft_records.specs.Records.{is_past, read_in, file_of, written_bytes};
 
 use crate::records::record_of;
-use block_view::{View, ViewFault};
-use disk_model::{Block, BlockKind, Body};
-use file_record::FileRec;
-use host_base::Memory;
-use plan_draft::Draft;
+use plan_draft::{Block, BlockKind, Body, Draft, View, ViewFault};
 use record_model::DATA;
+use resized_streams::{FileRec, Memory, block_at, no_extents, stream_of};
 use state_model::{ClusterSize, Extents, Stream};
 use std::alloc::Global;
-use stream_map::{block_at, no_extents, stream_of};
 
 /// Whether a record lies wholly past the initialised size of these extents; in constant time.
 pub fn is_past(records: &Extents, number: u64) -> bool

@@ -1,20 +1,18 @@
 //! File records as a plan reads and writes them.
 ghost use Rattle.std.specs.Prelude.{◌≡◌, ◌*◌, ◌<◌, ◌≤◌, ◌^◌, [], ◌∷◌, map, IfOk, IfSome, OnOk, OnErr, IfErr, length};
-ghost use Rattle.disk_model.specs.declared.block.BlockKind.TheVariants.{FileRec as file_kind};
-ghost use Rattle.disk_model.specs.Content.{is_signed};
+ghost use Rattle.record_model.specs.disk_model.declared.block.BlockKind.TheVariants.{FileRec as file_kind};
+ghost use Rattle.record_model.specs.disk_model.Content.{is_signed};
 ghost use Rattle.record_model.specs.Records.{record_at, record_spelling, FitsRecord};
-ghost use Rattle.record_writer.specs.NormalLaws.{FitsByRoom};
-ghost use Rattle.record_streams.specs.Fitting.{FitsButRoom};
-ghost use Rattle.record_writer.specs.Faults.{room_cause};
-ghost use Rattle.host_base.specs.Answers.{Gives};
+ghost use Rattle.resized_streams.specs.record_writer.NormalLaws.{FitsByRoom};
+ghost use Rattle.resized_streams.specs.record_streams.Fitting.{FitsButRoom};
+ghost use Rattle.resized_streams.specs.record_writer.Faults.{room_cause};
+ghost use Rattle.resized_streams.specs.host_base.Answers.{Gives};
 ghost use Rattle.state_model.specs.Loads.{slot_by, slot_in, used_record, is_used};
 ghost use Rattle.draft_records.specs.Records.{name_count, with_links, with_normal, written_bytes, written_in_room, body_of_record};
 
-use disk_model::{Body, u16_at};
-use file_record::{FileRec, RecFault};
-use host_base::Bytes;
+use plan_draft::{Body, u16_at};
 use record_model::{Attr, FILE_NAME, RecHead, RecordFlags};
-use record_writer::{RoomFault, WrittenRecord, normal_attr};
+use resized_streams::{Bytes, FileRec, RecFault, RoomFault, WrittenRecord, normal_attr};
 use std::alloc::{AllocError, Global};
 
 // The bytes of a record.

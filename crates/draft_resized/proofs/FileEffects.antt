@@ -2,29 +2,29 @@
 use Rattle.std.proofs.Common.{◌≡◌, ℕ, ◌/◌, ◌<◌, Bool, true, false, cond, List, length, Option, Some, None, Result, Ok, refl, sym, ap, ap₂, ◌∙◌, arith}
 use Rattle.std.proofs.lemmas.Bool.{and_right}
 use Rattle.host_base.specs.Answers.{◌>>=◌}
-use Rattle.disk_model.specs.declared.block.Block.{Block}
-use Rattle.disk_model.specs.declared.block.BlockKind.TheVariants.{Plain, FileRec}
-use Rattle.disk_model.specs.Bodies.{BodyOf}
-use Rattle.disk_model.specs.Content.{Content, HasSizes}
-use Rattle.disk_model.specs.Sectors.{same_kind, same_block}
-use Rattle.record_model.specs.Records.{Record, record_spelling}
-use Rattle.record_writer.specs.NormalLaws.{FitsByRoom}
-use Rattle.state_model.specs.declared.stream.Extents.{Extents}
-use Rattle.stream_map.proofs.Reading.{kind-block_at}
-use Rattle.volume_model.specs.Owners.{uses}
-use Rattle.plan_bodies.specs.Bodies.{NewBody, body_in}
-use Rattle.plan_bodies.proofs.Putting.{block_itself}
-use Rattle.plan_draft.specs.declared.touched.Touched.{Touched}
-use Rattle.plan_draft.specs.Touching.{bodies_of, touch}
-use Rattle.plan_draft.specs.Drafts.{drafted}
-use Rattle.plan_draft.proofs.Puts.{bodies_touch, rises_touch, whole_touch}
-use Rattle.plan_draft.proofs.Same.{one_in_order}
-use Rattle.draft_bits.specs.Effects.{stream_bit, IsKept, IsNoSector}
-use Rattle.draft_bits.proofs.BitEffects.{same_bit}
+use Rattle.draft_records.specs.disk_model.declared.block.Block.{Block}
+use Rattle.draft_records.specs.disk_model.declared.block.BlockKind.TheVariants.{Plain, FileRec}
+use Rattle.draft_records.specs.disk_model.Bodies.{BodyOf}
+use Rattle.draft_records.specs.disk_model.Content.{Content, HasSizes}
+use Rattle.draft_records.specs.disk_model.Sectors.{same_kind, same_block}
+use Rattle.draft_records.specs.record_model.Records.{Record, record_spelling}
+use Rattle.draft_records.specs.record_writer.NormalLaws.{FitsByRoom}
+use Rattle.draft_records.specs.state_model.declared.stream.Extents.{Extents}
+use Rattle.draft_records.proofs.stream_map.Reading.{kind-block_at}
+use Rattle.draft_records.specs.volume_model.Owners.{uses}
+use Rattle.draft_records.specs.plan_bodies.Bodies.{NewBody, body_in}
+use Rattle.draft_records.proofs.plan_bodies.Putting.{block_itself}
+use Rattle.draft_records.specs.plan_draft.declared.touched.Touched.{Touched}
+use Rattle.draft_records.specs.plan_draft.Touching.{bodies_of, touch}
+use Rattle.draft_records.specs.plan_draft.Drafts.{drafted}
+use Rattle.draft_records.proofs.plan_draft.Puts.{bodies_touch, rises_touch, whole_touch}
+use Rattle.draft_records.proofs.plan_draft.Same.{one_in_order}
+use Rattle.draft_runs.specs.draft_bits.Effects.{stream_bit, IsKept, IsNoSector}
+use Rattle.draft_runs.proofs.draft_bits.BitEffects.{same_bit}
 use Rattle.draft_records.specs.Records.{record_block, is_past, has_mirror, fits_room, written_record, body_of_record, touch_if}
 use Rattle.draft_records.proofs.Steps.{kind_of_size}
 use Rattle.draft_records.proofs.Written.{body_long}
-use Rattle.resized_streams.specs.declared.resized.Resized.{Resized}
+use Rattle.draft_records.specs.resized_streams.declared.resized.Resized.{Resized}
 use Rattle.draft_resized.specs.Resized.{resized_bytes, with_file}
 use Rattle.draft_resized.specs.Effects.{PutsWhole, ResizedIsPut}
 use Rattle.draft_runs.proofs.RunEffects.{runs_put}

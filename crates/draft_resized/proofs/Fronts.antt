@@ -1,8 +1,8 @@
 -- Two steps one after the other, and what stands where the second one fails.
 use Rattle.std.proofs.Common.{◌≡◌, ◌⊎◌, List, Option, Some, None, inl, inr, subst}
 use Rattle.std.specs.Prelude.{IfSome, Result, Ok, Err, OnOk, OnErr}
-use Rattle.disk_model.specs.Content.{Content}
-use Rattle.plan_draft.specs.declared.touched.Touched.{Touched}
+use Rattle.draft_records.specs.disk_model.Content.{Content}
+use Rattle.draft_records.specs.plan_draft.declared.touched.Touched.{Touched}
 
 -- ---- where the content is known
 

@@ -1,20 +1,20 @@
 -- What a value in clusters of its own makes of the draft.
 use Rattle.std.proofs.Common.{◌≡◌, ℕ, ◌-◌, ◌/◌, ◌<◌, List, length, Some, sym, ap, subst, ◌∙◌, arith}
 use Rattle.std.specs.Prelude.{slice_index}
-use Rattle.disk_model.specs.declared.block.Block.{Block}
-use Rattle.disk_model.specs.declared.block.BlockKind.TheVariants.{Plain}
-use Rattle.disk_model.specs.Content.{Content}
-use Rattle.state_model.specs.declared.stream.Extents.{Extents}
-use Rattle.state_model.specs.Streams.{block_at, byte_at}
-use Rattle.plan_bodies.specs.Bodies.{body_in}
-use Rattle.plan_draft.specs.declared.touched.Touched.{Touched}
-use Rattle.plan_draft.specs.Touching.{bodies_of}
-use Rattle.plan_draft.specs.Drafts.{drafted}
-use Rattle.draft_streams.specs.Effects.{byte_put}
-use Rattle.draft_streams.proofs.Effecting.{effects}
-use Rattle.draft_bits.specs.Effects.{IsKept, IsNoSector}
-use Rattle.draft_bits.proofs.BitEffects.{byte_there}
-use Rattle.resized_streams.specs.declared.resized.Resized.{Resized}
+use Rattle.draft_records.specs.disk_model.declared.block.Block.{Block}
+use Rattle.draft_records.specs.disk_model.declared.block.BlockKind.TheVariants.{Plain}
+use Rattle.draft_records.specs.disk_model.Content.{Content}
+use Rattle.draft_records.specs.state_model.declared.stream.Extents.{Extents}
+use Rattle.draft_records.specs.state_model.Streams.{block_at, byte_at}
+use Rattle.draft_records.specs.plan_bodies.Bodies.{body_in}
+use Rattle.draft_records.specs.plan_draft.declared.touched.Touched.{Touched}
+use Rattle.draft_records.specs.plan_draft.Touching.{bodies_of}
+use Rattle.draft_records.specs.plan_draft.Drafts.{drafted}
+use Rattle.draft_runs.specs.draft_streams.Effects.{byte_put}
+use Rattle.draft_runs.proofs.draft_streams.Effecting.{effects}
+use Rattle.draft_runs.specs.draft_bits.Effects.{IsKept, IsNoSector}
+use Rattle.draft_runs.proofs.draft_bits.BitEffects.{byte_there}
+use Rattle.draft_records.specs.resized_streams.declared.resized.Resized.{Resized}
 use Rattle.draft_resized.specs.Effects.{MovesWhole, MovedIsPut}
 use Rattle.draft_resized.proofs.FileEffects.{resized_put}
 

@@ -1,21 +1,21 @@
 -- What a file with clusters that came and went makes of the draft.
 use Rattle.std.specs.Prelude.{◌≡◌, ℕ, ◌/◌, ◌<◌, true, false, List, length, slice_index, Ok, Some}
-use Rattle.disk_model.specs.declared.block.Block.{Block}
-use Rattle.disk_model.specs.declared.block.BlockKind.TheVariants.{Plain}
-use Rattle.disk_model.specs.Content.{Content, HasSizes}
-use Rattle.record_writer.specs.NormalLaws.{FitsByRoom}
-use Rattle.state_model.specs.declared.stream.Extents.{Extents}
-use Rattle.state_model.specs.Streams.{block_at, byte_at}
-use Rattle.volume_model.specs.Owners.{uses}
-use Rattle.plan_bodies.specs.Bodies.{body_in}
-use Rattle.plan_draft.specs.declared.touched.Touched.{Touched}
-use Rattle.plan_draft.specs.Touching.{bodies_of}
-use Rattle.plan_draft.specs.Drafts.{drafted}
-use Rattle.draft_streams.specs.Parts.{touch_bytes}
-use Rattle.draft_streams.specs.Effects.{HasOwnSectors}
-use Rattle.draft_bits.specs.Effects.{stream_bit, IsKept, IsNoSector}
+use Rattle.draft_records.specs.disk_model.declared.block.Block.{Block}
+use Rattle.draft_records.specs.disk_model.declared.block.BlockKind.TheVariants.{Plain}
+use Rattle.draft_records.specs.disk_model.Content.{Content, HasSizes}
+use Rattle.draft_records.specs.record_writer.NormalLaws.{FitsByRoom}
+use Rattle.draft_records.specs.state_model.declared.stream.Extents.{Extents}
+use Rattle.draft_records.specs.state_model.Streams.{block_at, byte_at}
+use Rattle.draft_records.specs.volume_model.Owners.{uses}
+use Rattle.draft_records.specs.plan_bodies.Bodies.{body_in}
+use Rattle.draft_records.specs.plan_draft.declared.touched.Touched.{Touched}
+use Rattle.draft_records.specs.plan_draft.Touching.{bodies_of}
+use Rattle.draft_records.specs.plan_draft.Drafts.{drafted}
+use Rattle.draft_runs.specs.draft_streams.Parts.{touch_bytes}
+use Rattle.draft_runs.specs.draft_streams.Effects.{HasOwnSectors}
+use Rattle.draft_runs.specs.draft_bits.Effects.{stream_bit, IsKept, IsNoSector}
 use Rattle.draft_records.specs.Records.{record_block, has_mirror, fits_room}
-use Rattle.resized_streams.specs.declared.resized.Resized.{Resized}
+use Rattle.draft_records.specs.resized_streams.declared.resized.Resized.{Resized}
 use Rattle.draft_resized.specs.Resized.{resized_bytes, PutsResized}
 
 -- a file is put over whole bodies in order, its record has room, and the sectors of the bitmap lie apart

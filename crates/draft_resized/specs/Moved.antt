@@ -1,10 +1,10 @@
 -- A value that left its record, put into a draft with the clusters that it took.
 use Rattle.std.specs.Prelude.{◌≡◌, ◌⊎◌, ℕ, List}
-use Rattle.disk_model.specs.Content.{Content}
-use Rattle.state_model.specs.declared.stream.Extents.{Extents}
-use Rattle.plan_draft.specs.declared.touched.Touched.{Touched}
-use Rattle.draft_streams.specs.Parts.{touch_bytes, IsFrontOf}
-use Rattle.resized_streams.specs.declared.resized.Resized.{Resized}
+use Rattle.draft_records.specs.disk_model.Content.{Content}
+use Rattle.draft_records.specs.state_model.declared.stream.Extents.{Extents}
+use Rattle.draft_records.specs.plan_draft.declared.touched.Touched.{Touched}
+use Rattle.draft_runs.specs.draft_streams.Parts.{touch_bytes, IsFrontOf}
+use Rattle.draft_records.specs.resized_streams.declared.resized.Resized.{Resized}
 use Rattle.draft_resized.specs.Resized.{PutsResized, PutsResizedFront}
 
 -- the file is put with its clusters, and then the value into them, whose sectors are all fresh

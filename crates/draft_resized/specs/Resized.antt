@@ -1,12 +1,12 @@
 -- A file of which a stream took clusters or gave some back, put into a draft.
 use Rattle.std.specs.Prelude.{◌⊎◌, ℕ, true, false, List}
-use Rattle.disk_model.specs.Content.{Content}
-use Rattle.record_model.specs.Records.{record_spelling}
-use Rattle.state_model.specs.declared.stream.Extents.{Extents}
-use Rattle.plan_draft.specs.declared.touched.Touched.{Touched}
-use Rattle.plan_draft.specs.Touching.{bodies_of}
+use Rattle.draft_records.specs.disk_model.Content.{Content}
+use Rattle.draft_records.specs.record_model.Records.{record_spelling}
+use Rattle.draft_records.specs.state_model.declared.stream.Extents.{Extents}
+use Rattle.draft_records.specs.plan_draft.declared.touched.Touched.{Touched}
+use Rattle.draft_records.specs.plan_draft.Touching.{bodies_of}
 use Rattle.draft_records.specs.Records.{written_record, touch_record, IsFront}
-use Rattle.resized_streams.specs.declared.resized.Resized.{Resized}
+use Rattle.draft_records.specs.resized_streams.declared.resized.Resized.{Resized}
 use Rattle.draft_runs.specs.Clusters.{PutsRuns, PutsRunsFront}
 
 -- the bytes of its record as it is written

@@ -6,11 +6,12 @@ mod laws;
 mod moved;
 mod resized;
 
-pub use block_view::View;
-pub use draft_records::DraftFault;
+pub use draft_records::{
+    ClusterSize, Draft, DraftFault, Extents, FreeBits, Resized, RoomFault, SpaceFault, Stream,
+    View, block_at, data_extents, file, grow, put_file, reads_the_table, sized, stream_of,
+    written_file,
+};
+pub use draft_runs::{fill_bits, last_cluster, put_bits, put_bytes, total_clusters};
 pub use laws::{moved_is_put, resized_is_put};
 pub use moved::put_moved;
-pub use plan_draft::Draft;
 pub use resized::put_resized;
-pub use resized_streams::Resized;
-pub use state_model::{ClusterSize, Extents};

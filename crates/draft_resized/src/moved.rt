@@ -1,20 +1,16 @@
 //! A value that left its record, put into a draft with the clusters that it took.
 ghost use Rattle.std.specs.Prelude.{◌≡◌, ◌<◌, ◌^◌, All, IfErr, IfSome, OnOk, OnErr, length};
 ghost use Rattle.host_base.specs.Answers.{GivesOrFails};
-ghost use Rattle.block_view.specs.Views.{AsksView};
-ghost use Rattle.record_writer.specs.NormalLaws.{FitsByRoom};
-ghost use Rattle.stream_runs.specs.Runs.{IsNear};
+ghost use Rattle.draft_records.specs.block_view.Views.{AsksView};
+ghost use Rattle.draft_records.specs.record_writer.NormalLaws.{FitsByRoom};
+ghost use Rattle.draft_runs.specs.stream_runs.Runs.{IsNear};
 ghost use Rattle.draft_records.specs.Faults.{draft_cause};
 ghost use Rattle.draft_records.specs.Records.{fits_room, StaysWhereFull};
 ghost use Rattle.draft_resized.specs.Moved.{PutsMoved, PutsMovedFront};
 
 use crate::resized::put_resized;
-use block_view::View;
-use draft_records::DraftFault;
-use draft_streams::put_bytes;
-use plan_draft::Draft;
-use resized_streams::Resized;
-use state_model::{ClusterSize, Extents};
+use draft_records::{ClusterSize, Draft, DraftFault, Extents, Resized, View};
+use draft_runs::put_bytes;
 use std::alloc::Global;
 
 /// Puts a file of which a value left its record for clusters

@@ -1,20 +1,16 @@
 //! A file of which a stream took clusters or gave some back, put into a draft.
 ghost use Rattle.std.specs.Prelude.{◌≡◌, ◌<◌, ◌^◌, true, false, All, IfErr, IfSome, OnOk, OnErr};
 ghost use Rattle.host_base.specs.Answers.{GivesOrFails};
-ghost use Rattle.block_view.specs.Views.{AsksView};
-ghost use Rattle.record_writer.specs.NormalLaws.{FitsByRoom};
-ghost use Rattle.stream_runs.specs.Runs.{IsNear};
-ghost use Rattle.plan_draft.specs.Faults.{fault_cause};
+ghost use Rattle.draft_records.specs.block_view.Views.{AsksView};
+ghost use Rattle.draft_records.specs.record_writer.NormalLaws.{FitsByRoom};
+ghost use Rattle.draft_runs.specs.stream_runs.Runs.{IsNear};
+ghost use Rattle.draft_records.specs.plan_draft.Faults.{fault_cause};
 ghost use Rattle.draft_records.specs.Faults.{draft_cause};
 ghost use Rattle.draft_records.specs.Records.{fits_room, StaysWhereFull};
 ghost use Rattle.draft_resized.specs.Resized.{PutsBoth, PutsBothFront, PutsResized, PutsResizedFront};
 
-use block_view::{View, ViewFault};
-use draft_records::{DraftFault, put_file};
+use draft_records::{ClusterSize, Draft, DraftFault, Extents, Resized, View, ViewFault, put_file};
 use draft_runs::put_runs;
-use plan_draft::Draft;
-use resized_streams::Resized;
-use state_model::{ClusterSize, Extents};
 use std::alloc::Global;
 
 // Sets the bits of the clusters that came, and clears those of the ones that went.

@@ -2,10 +2,10 @@
 use Rattle.std.proofs.Common.{◌≡◌, ◌⊎◌, ℕ, suc, ◌+◌, ◌<◌, ◌≤◌, Bool, List, [], ◌∷◌, length, get_or, drop, Option, Some, None, refl, sym, ap, subst, ◌∙◌, inl, inr, arith}
 use Rattle.std.specs.Prelude.{IfSome, Result, Ok, Err, OnErr}
 use Rattle.std.proofs.lemmas.List.{drop_more, drop_all}
-use Rattle.disk_model.specs.Content.{Content}
-use Rattle.record_model.specs.declared.runs.Run.{Run}
-use Rattle.state_model.specs.declared.stream.Extents.{Extents}
-use Rattle.plan_draft.specs.declared.touched.Touched.{Touched}
+use Rattle.draft_bits.specs.disk_model.Content.{Content}
+use Rattle.draft_bits.specs.record_model.declared.runs.Run.{Run}
+use Rattle.draft_bits.specs.state_model.declared.stream.Extents.{Extents}
+use Rattle.draft_bits.specs.plan_draft.declared.touched.Touched.{Touched}
 use Rattle.draft_runs.specs.Clusters.{PutsClusters, PutsClustersFront, PutsRuns, PutsRunsFront}
 
 -- what is put of the runs that are left leads from now on to what is put of all

@@ -1,9 +1,9 @@
 -- Bits of the clusters of runs, in the bitmap of clusters, that a plan sets or clears.
 use Rattle.std.specs.Prelude.{◌≡◌, ◌⊎◌, ℕ, Bool, List, [], ◌∷◌, Option, Some, None}
-use Rattle.disk_model.specs.Content.{Content}
-use Rattle.record_model.specs.declared.runs.Run.{Run}
-use Rattle.state_model.specs.declared.stream.Extents.{Extents}
-use Rattle.plan_draft.specs.declared.touched.Touched.{Touched}
+use Rattle.draft_bits.specs.disk_model.Content.{Content}
+use Rattle.draft_bits.specs.record_model.declared.runs.Run.{Run}
+use Rattle.draft_bits.specs.state_model.declared.stream.Extents.{Extents}
+use Rattle.draft_bits.specs.plan_draft.declared.touched.Touched.{Touched}
 use Rattle.draft_bits.specs.Filling.{PutsBits, PutsFront}
 
 -- the bits of so many clusters from this one on are put into the bitmap; a sparse run has no clusters

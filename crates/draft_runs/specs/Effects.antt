@@ -1,17 +1,17 @@
 -- What the bits of clusters make of their bitmap.
 use Rattle.std.specs.Prelude.{◌≡◌, ℕ, ◌/◌, ◌<◌, Bool, List, Some}
-use Rattle.disk_model.specs.declared.block.Block.{Block}
-use Rattle.disk_model.specs.declared.block.BlockKind.TheVariants.{Plain}
-use Rattle.disk_model.specs.Content.{Content, HasSizes}
-use Rattle.record_model.specs.declared.runs.Run.{Run}
-use Rattle.state_model.specs.declared.stream.Extents.{Extents}
-use Rattle.state_model.specs.Streams.{block_at}
-use Rattle.volume_model.specs.Owners.{uses}
-use Rattle.plan_bodies.specs.Bodies.{body_in}
-use Rattle.plan_draft.specs.declared.touched.Touched.{Touched}
-use Rattle.plan_draft.specs.Touching.{bodies_of}
-use Rattle.plan_draft.specs.Drafts.{drafted}
-use Rattle.draft_streams.specs.Effects.{HasOwnSectors}
+use Rattle.draft_bits.specs.disk_model.declared.block.Block.{Block}
+use Rattle.draft_bits.specs.disk_model.declared.block.BlockKind.TheVariants.{Plain}
+use Rattle.draft_bits.specs.disk_model.Content.{Content, HasSizes}
+use Rattle.draft_bits.specs.record_model.declared.runs.Run.{Run}
+use Rattle.draft_bits.specs.state_model.declared.stream.Extents.{Extents}
+use Rattle.draft_bits.specs.state_model.Streams.{block_at}
+use Rattle.stream_runs.specs.volume_model.Owners.{uses}
+use Rattle.draft_bits.specs.plan_bodies.Bodies.{body_in}
+use Rattle.draft_bits.specs.plan_draft.declared.touched.Touched.{Touched}
+use Rattle.draft_bits.specs.plan_draft.Touching.{bodies_of}
+use Rattle.draft_bits.specs.plan_draft.Drafts.{drafted}
+use Rattle.draft_bits.specs.draft_streams.Effects.{HasOwnSectors}
 use Rattle.draft_bits.specs.Effects.{stream_bit, IsKept, IsNoSector}
 use Rattle.draft_runs.specs.Clusters.{PutsRuns}
 

@@ -4,9 +4,9 @@
 mod laws;
 mod putting;
 
-pub use block_view::{View, ViewFault};
+pub use draft_bits::{
+    ClusterSize, Draft, Extents, View, ViewFault, fill_bits, put_bits, put_bytes,
+};
 pub use laws::runs_are_put;
-pub use plan_draft::Draft;
 pub use putting::put_runs;
-pub use record_model::Run;
-pub use state_model::{ClusterSize, Extents};
+pub use stream_runs::{Run, last_cluster, total_clusters};

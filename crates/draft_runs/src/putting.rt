@@ -1,16 +1,13 @@
 //! Bits of the clusters of runs that a draft puts into the bitmap.
 ghost use Rattle.std.specs.Prelude.{◌≡◌, ◌+◌, ◌<◌, ◌^◌, All, IfSome, OnOk, OnErr};
-ghost use Rattle.block_view.specs.Views.{AsksView};
+ghost use Rattle.draft_bits.specs.block_view.Views.{AsksView};
 ghost use Rattle.stream_runs.specs.Runs.{IsNear};
-ghost use Rattle.plan_draft.specs.Faults.{fault_cause};
+ghost use Rattle.draft_bits.specs.plan_draft.Faults.{fault_cause};
 ghost use Rattle.draft_runs.specs.Clusters.{PutsClusters, PutsClustersFront, PutsRuns, PutsRunsFront};
 
-use block_view::{View, ViewFault};
-use draft_bits::put_bits;
-use plan_draft::Draft;
-use record_model::Run;
-use state_model::{ClusterSize, Extents};
+use draft_bits::{ClusterSize, Draft, Extents, View, ViewFault, put_bits};
 use std::alloc::Global;
+use stream_runs::Run;
 
 // Puts the bits of so many clusters from this one on, if there is one.
 fn put_clusters<V: View>(

@@ -3,18 +3,18 @@ use Rattle.std.proofs.Common.{◌≡◌, ◌⊎◌, ℕ, zero, suc, ◌+◌, ◌
 use Rattle.std.specs.Prelude.{All, nat_le, slice_index}
 use Rattle.std.proofs.lemmas.Bool.{cases_lt, ne_eqb}
 use Rattle.std.proofs.lemmas.List.{get_or-take, get_or-drop, length-take, length-drop}
-use Rattle.disk_model.specs.declared.block.Block.{Block}
-use Rattle.disk_model.specs.declared.block.BlockKind.TheVariants.{Plain}
-use Rattle.disk_model.specs.Bodies.{BodyOf}
-use Rattle.disk_model.specs.Bytes.{written}
-use Rattle.disk_model.specs.Content.{Content, HasSizes}
-use Rattle.disk_model.specs.Sectors.{sectors, same_block}
-use Rattle.disk_model.proofs.Frames.{written_within, written_before, written_behind, length-written}
-use Rattle.record_model.specs.declared.runs.Run.{Run}
-use Rattle.state_model.specs.Streams.{block_at}
+use Rattle.stream_map.specs.disk_model.declared.block.Block.{Block}
+use Rattle.stream_map.specs.disk_model.declared.block.BlockKind.TheVariants.{Plain}
+use Rattle.stream_map.specs.disk_model.Bodies.{BodyOf}
+use Rattle.stream_map.specs.disk_model.Bytes.{written}
+use Rattle.stream_map.specs.disk_model.Content.{Content, HasSizes}
+use Rattle.stream_map.specs.disk_model.Sectors.{sectors, same_block}
+use Rattle.stream_map.proofs.disk_model.Frames.{written_within, written_before, written_behind, length-written}
+use Rattle.stream_map.specs.record_model.declared.runs.Run.{Run}
+use Rattle.stream_map.specs.state_model.Streams.{block_at}
 use Rattle.stream_map.proofs.Reading.{kind-block_at}
-use Rattle.plan_bodies.specs.Bodies.{NewBody, AreBodies, body_in, body_or, content_with}
-use Rattle.plan_bodies.proofs.Putting.{body_put, sized_with, block_itself}
+use Rattle.plan_draft.specs.plan_bodies.Bodies.{NewBody, AreBodies, body_in, body_or, content_with}
+use Rattle.plan_draft.proofs.plan_bodies.Putting.{body_put, sized_with, block_itself}
 use Rattle.plan_draft.specs.declared.touched.Touched.{Touched}
 use Rattle.plan_draft.specs.Touching.{bodies_of, touch, rises, keys_of, IsWhole}
 use Rattle.plan_draft.specs.Writing.{zeros_or, present}

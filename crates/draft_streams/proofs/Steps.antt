@@ -3,14 +3,14 @@ use Rattle.std.proofs.Common.{◌≡◌, ℕ, suc, ◌+◌, ◌-◌, ◌*◌, �
 use Rattle.std.specs.Prelude.{IfSome, nat_le}
 use Rattle.std.proofs.lemmas.Bool.{cases_lt, ne_eqb}
 use Rattle.std.proofs.lemmas.List.{take_all}
-use Rattle.disk_model.specs.declared.block.Block.{Block}
-use Rattle.disk_model.specs.declared.block.BlockKind.{BlockKind}
-use Rattle.disk_model.specs.declared.block.BlockKind.TheVariants.{Plain}
-use Rattle.disk_model.specs.Bytes.{written}
-use Rattle.disk_model.specs.Content.{Content}
-use Rattle.disk_model.specs.Sectors.{sectors}
-use Rattle.record_model.specs.declared.runs.Run.{Run}
-use Rattle.state_model.specs.Streams.{block_at}
+use Rattle.stream_map.specs.disk_model.declared.block.Block.{Block}
+use Rattle.stream_map.specs.disk_model.declared.block.BlockKind.{BlockKind}
+use Rattle.stream_map.specs.disk_model.declared.block.BlockKind.TheVariants.{Plain}
+use Rattle.stream_map.specs.disk_model.Bytes.{written}
+use Rattle.stream_map.specs.disk_model.Content.{Content}
+use Rattle.stream_map.specs.disk_model.Sectors.{sectors}
+use Rattle.stream_map.specs.record_model.declared.runs.Run.{Run}
+use Rattle.stream_map.specs.state_model.Streams.{block_at}
 use Rattle.plan_draft.specs.declared.touched.Touched.{Touched}
 use Rattle.plan_draft.specs.Touching.{bodies_of, touch}
 use Rattle.plan_draft.specs.Writing.{present}

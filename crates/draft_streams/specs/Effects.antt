@@ -1,12 +1,12 @@
 -- What bytes that are put into a stream make of it.
 use Rattle.std.specs.Prelude.{◌≡◌, ◌≢◌, ◌⊎◌, ℕ, ◌+◌, ◌-◌, ◌/◌, ◌%◌, ◌<◌, ◌≤◌, true, false, nat_le, All, List, length, slice_index, Some}
-use Rattle.disk_model.specs.declared.block.Block.{Block}
-use Rattle.disk_model.specs.declared.block.BlockKind.TheVariants.{Plain}
-use Rattle.disk_model.specs.Content.{Content, HasSizes}
-use Rattle.disk_model.specs.Sectors.{same_block}
-use Rattle.record_model.specs.declared.runs.Run.{Run}
-use Rattle.state_model.specs.Streams.{block_at}
-use Rattle.plan_bodies.specs.Bodies.{body_in}
+use Rattle.stream_map.specs.disk_model.declared.block.Block.{Block}
+use Rattle.stream_map.specs.disk_model.declared.block.BlockKind.TheVariants.{Plain}
+use Rattle.stream_map.specs.disk_model.Content.{Content, HasSizes}
+use Rattle.stream_map.specs.disk_model.Sectors.{same_block}
+use Rattle.stream_map.specs.record_model.declared.runs.Run.{Run}
+use Rattle.stream_map.specs.state_model.Streams.{block_at}
+use Rattle.plan_draft.specs.plan_bodies.Bodies.{body_in}
 use Rattle.plan_draft.specs.declared.touched.Touched.{Touched}
 use Rattle.plan_draft.specs.Touching.{bodies_of, rises, keys_of, IsWhole}
 use Rattle.plan_draft.specs.Writing.{present}

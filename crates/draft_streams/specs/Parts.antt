@@ -1,11 +1,11 @@
 -- Bytes that a plan puts into a stream: into each of its sectors those that fall there.
 use Rattle.std.specs.Prelude.{◌≡◌, ℕ, zero, suc, ◌+◌, ◌-◌, ◌*◌, ◌/◌, ◌≤◌, ◌==◌, Bool, nat_le, if◌then◌else◌, List, length, Option, Some, None}
-use Rattle.disk_model.specs.declared.block.Block.{Block}
-use Rattle.disk_model.specs.declared.block.BlockKind.TheVariants.{Plain}
-use Rattle.disk_model.specs.Bytes.{part, written}
-use Rattle.disk_model.specs.Content.{Content}
-use Rattle.record_model.specs.declared.runs.Run.{Run}
-use Rattle.state_model.specs.Streams.{block_at}
+use Rattle.stream_map.specs.disk_model.declared.block.Block.{Block}
+use Rattle.stream_map.specs.disk_model.declared.block.BlockKind.TheVariants.{Plain}
+use Rattle.stream_map.specs.disk_model.Bytes.{part, written}
+use Rattle.stream_map.specs.disk_model.Content.{Content}
+use Rattle.stream_map.specs.record_model.declared.runs.Run.{Run}
+use Rattle.stream_map.specs.state_model.Streams.{block_at}
 use Rattle.plan_draft.specs.declared.touched.Touched.{Touched}
 use Rattle.plan_draft.specs.Touching.{bodies_of, touch}
 use Rattle.plan_draft.specs.Writing.{present}

@@ -1,18 +1,14 @@
 //! Bytes that a draft puts into the sectors of a stream.
 ghost use Rattle.std.specs.Prelude.{◌≡◌, ◌+◌, ◌-◌, ◌*◌, ◌/◌, ◌<◌, ◌≤◌, ◌^◌, nat_le, IfSome, OnOk, OnErr, length};
-ghost use Rattle.disk_model.specs.declared.block.BlockKind.TheVariants.{Plain};
-ghost use Rattle.block_view.specs.Views.{AsksView};
-ghost use Rattle.state_model.specs.Streams.{block_at};
+ghost use Rattle.stream_map.specs.disk_model.declared.block.BlockKind.TheVariants.{Plain};
+ghost use Rattle.stream_map.specs.block_view.Views.{AsksView};
+ghost use Rattle.stream_map.specs.state_model.Streams.{block_at};
 ghost use Rattle.plan_draft.specs.Faults.{fault_cause};
 ghost use Rattle.draft_streams.specs.Parts.{offset_in, bytes_in, touch_part, touch_sector, touch_bytes, first_sector, sector_count, IsFrontOf};
 
-use block_view::{View, ViewFault};
-use disk_model::BlockKind;
 use plan_draft::Draft;
-use record_model::Runs;
-use state_model::ClusterSize;
 use std::alloc::Global;
-use stream_map::block_at;
+use stream_map::{BlockKind, ClusterSize, Runs, View, ViewFault, block_at};
 
 // Where bytes begin in a sector that begin at this place of the stream, or before the sector.
 fn offset_in(at: u64, sector: u64) -> usize

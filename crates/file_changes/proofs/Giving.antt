@@ -6,16 +6,16 @@ use Rattle.record_model.specs.Pairs.{cluster_limit}
 use Rattle.record_model.specs.Records.{Record}
 use Rattle.file_tree.specs.declared.node.Node.{Node}
 use Rattle.state_model.specs.declared.geometry.Geometry.{Geometry}
-use Rattle.volume_model.specs.Volumes.{Volume}
+use Rattle.written_clusters.specs.volume_model.Volumes.{Volume}
 use Rattle.tree_model.specs.declared.script.Op.{Op}
 use Rattle.plan_draft.specs.declared.touched.Touched.{Touched}
-use Rattle.step_model.specs.Placing.{more_of}
-use Rattle.data_plan.specs.Changes.{HasData, growth_of, row_of}
-use Rattle.file_puts.specs.declared.streams.VolumeStreams.{VolumeStreams}
+use Rattle.written_clusters.specs.step_model.Placing.{more_of}
+use Rattle.written_clusters.specs.data_plan.Changes.{HasData, growth_of, row_of}
+use Rattle.file_writes.specs.file_puts.declared.streams.VolumeStreams.{VolumeStreams}
 use Rattle.file_writes.specs.declared.fault.WriteFault.{WriteFault}
 use Rattle.file_writes.specs.Faults.{IsShortOf, HasRow}
 use Rattle.file_writes.specs.Writing.{PutsWrite}
-use Rattle.change_steps.specs.Ready.{BareIsEnough}
+use Rattle.written_clusters.specs.change_steps.Ready.{BareIsEnough}
 use Rattle.file_changes.specs.Calls.{IsAsked}
 use Rattle.file_changes.specs.Writes.{WritesAreDone}
 use Rattle.file_changes.specs.Written.{IsWritten, WrittenFrom}

@@ -4,13 +4,13 @@ use Rattle.disk_model.specs.Content.{Content}
 use Rattle.record_model.specs.Records.{Record}
 use Rattle.file_tree.specs.declared.node.Node.{Node}
 use Rattle.state_model.specs.declared.geometry.Geometry.{Geometry}
-use Rattle.volume_model.specs.Volumes.{Volume}
+use Rattle.written_clusters.specs.volume_model.Volumes.{Volume}
 use Rattle.tree_model.specs.declared.script.Op.{Op}
 use Rattle.plan_draft.specs.declared.touched.Touched.{Touched}
 use Rattle.plan_draft.specs.Drafts.{drafted}
-use Rattle.data_plan.specs.declared.change.DataChange.{DataChange}
-use Rattle.file_puts.specs.declared.streams.VolumeStreams.{VolumeStreams}
-use Rattle.change_steps.specs.Changes.{ChangesAreSteps, DraftsAreWritten}
+use Rattle.written_clusters.specs.data_plan.declared.change.DataChange.{DataChange}
+use Rattle.file_writes.specs.file_puts.declared.streams.VolumeStreams.{VolumeStreams}
+use Rattle.written_clusters.specs.change_steps.Changes.{ChangesAreSteps, DraftsAreWritten}
 use Rattle.file_changes.specs.Writes.{WritesAreDone}
 use Rattle.file_changes.specs.Steps.{WritesAreSteps}
 

@@ -6,18 +6,18 @@ use Rattle.record_model.specs.Pairs.{cluster_limit}
 use Rattle.record_model.specs.Records.{Record}
 use Rattle.file_tree.specs.declared.node.Node.{Node}
 use Rattle.state_model.specs.declared.geometry.Geometry.{Geometry}
-use Rattle.volume_model.specs.Volumes.{Volume, cluster_bits}
+use Rattle.written_clusters.specs.volume_model.Volumes.{Volume, cluster_bits}
 use Rattle.tree_model.specs.declared.script.Op.{Op}
 use Rattle.plan_draft.specs.declared.touched.Touched.{Touched}
-use Rattle.step_model.specs.Placing.{Growth, more_of}
-use Rattle.data_plan.specs.declared.change.DataChange.{DataChange}
-use Rattle.data_plan.specs.Changes.{HasData, growth_of, row_of, IsChange}
-use Rattle.file_puts.specs.declared.streams.VolumeStreams.{VolumeStreams}
-use Rattle.file_puts.specs.Puts.{PutsChange}
-use Rattle.file_puts.specs.Written.{WritesFile, WritesBy}
+use Rattle.written_clusters.specs.step_model.Placing.{Growth, more_of}
+use Rattle.written_clusters.specs.data_plan.declared.change.DataChange.{DataChange}
+use Rattle.written_clusters.specs.data_plan.Changes.{HasData, growth_of, row_of, IsChange}
+use Rattle.file_writes.specs.file_puts.declared.streams.VolumeStreams.{VolumeStreams}
+use Rattle.file_writes.specs.file_puts.Puts.{PutsChange}
+use Rattle.file_writes.specs.file_puts.Written.{WritesFile, WritesBy}
 use Rattle.file_writes.specs.Writing.{PutsWrite}
 use Rattle.written_clusters.specs.Done.{HasClusters}
-use Rattle.change_steps.specs.Ready.{BareIsEnough}
+use Rattle.written_clusters.specs.change_steps.Ready.{BareIsEnough}
 use Rattle.file_changes.specs.Calls.{IsAsked}
 
 module _ (bare : BareIsEnough) (c : Content) (g : Geometry) (clusters : ℕ) (v : Volume) (s : VolumeStreams) (op : Op) (node a : Node) (stamp : ℕ) (r by : Record) (bits : List Bool) (asked : IsAsked c g clusters v s op node a r bits) where

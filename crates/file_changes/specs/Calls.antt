@@ -5,21 +5,21 @@ use Rattle.record_model.specs.Records.{Record}
 use Rattle.file_tree.specs.declared.node.Node.{Node}
 use Rattle.file_tree.specs.Trees.{without_bytes}
 use Rattle.state_model.specs.declared.geometry.Geometry.{Geometry}
-use Rattle.volume_model.specs.Volumes.{Volume, cluster_bits}
+use Rattle.written_clusters.specs.volume_model.Volumes.{Volume, cluster_bits}
 use Rattle.tree_model.specs.declared.script.Op.{Op}
 use Rattle.tree_model.specs.declared.reply.Reply.TheVariants as reply
 use Rattle.tree_model.specs.Needs.{changes_file}
-use Rattle.change_lookup.specs.declared.found.Found.TheVariants.{File}
+use Rattle.written_clusters.specs.change_lookup.declared.found.Found.TheVariants.{File}
 use Rattle.plan_draft.specs.declared.touched.Touched.{Touched}
 use Rattle.plan_draft.specs.Drafts.{drafted}
-use Rattle.plan_changes.specs.Files.{IsChangeable}
-use Rattle.step_model.specs.Steps.{Step}
-use Rattle.file_puts.specs.declared.streams.VolumeStreams.{VolumeStreams}
-use Rattle.file_puts.specs.Written.{AreStreamsOf}
+use Rattle.written_clusters.specs.plan_changes.Files.{IsChangeable}
+use Rattle.written_clusters.specs.step_model.Steps.{Step}
+use Rattle.file_writes.specs.file_puts.declared.streams.VolumeStreams.{VolumeStreams}
+use Rattle.file_writes.specs.file_puts.Written.{AreStreamsOf}
 use Rattle.file_writes.specs.declared.fault.WriteFault.{WriteFault}
 use Rattle.file_writes.specs.declared.fault.WriteFault.TheVariants.{Full, Short, Fault, Memory}
-use Rattle.change_steps.specs.Found.{HasChange, Finds}
-use Rattle.change_steps.specs.Changes.{change_reply}
+use Rattle.written_clusters.specs.change_steps.Found.{HasChange, Finds}
+use Rattle.written_clusters.specs.change_steps.Changes.{change_reply}
 
 -- In a state without a change journal the operation was found to change a file, which is the node with these bytes. The streams and the
 -- bits are those of its volume.

@@ -6,9 +6,9 @@ use Rattle.file_tree.specs.declared.node.Node.{Node}
 use Rattle.tree_model.specs.declared.script.Op.{Op}
 use Rattle.space_model.specs.Choosing.{with_runs}
 use Rattle.plan_draft.specs.declared.touched.Touched.{Touched}
-use Rattle.step_model.specs.Placing.{more_of}
-use Rattle.data_plan.specs.Changes.{growth_of}
-use Rattle.file_puts.specs.declared.streams.VolumeStreams.{VolumeStreams}
+use Rattle.written_clusters.specs.step_model.Placing.{more_of}
+use Rattle.written_clusters.specs.data_plan.Changes.{growth_of}
+use Rattle.file_writes.specs.file_puts.declared.streams.VolumeStreams.{VolumeStreams}
 use Rattle.file_writes.specs.declared.fault.WriteFault.{WriteFault}
 use Rattle.file_writes.specs.Faults.{IsShortOf, StaysWhereRefused}
 use Rattle.file_changes.specs.Calls.{StepsFrom}

@@ -4,18 +4,18 @@ use Rattle.disk_model.specs.Content.{Content}
 use Rattle.record_model.specs.Records.{Record}
 use Rattle.file_tree.specs.declared.node.Node.{Node}
 use Rattle.state_model.specs.declared.geometry.Geometry.{Geometry}
-use Rattle.volume_model.specs.Volumes.{Volume, cluster_bits}
+use Rattle.written_clusters.specs.volume_model.Volumes.{Volume, cluster_bits}
 use Rattle.tree_model.specs.declared.script.Op.{Op}
-use Rattle.change_lookup.specs.declared.found.Found.TheVariants.{File}
+use Rattle.written_clusters.specs.change_lookup.declared.found.Found.TheVariants.{File}
 use Rattle.plan_draft.specs.declared.touched.Touched.{Touched}
 use Rattle.plan_draft.specs.Drafts.{drafted}
-use Rattle.step_model.specs.Steps.{Step}
-use Rattle.data_plan.specs.declared.change.DataChange.{DataChange}
-use Rattle.data_plan.specs.Changes.{row_of}
-use Rattle.file_puts.specs.declared.streams.VolumeStreams.{VolumeStreams}
-use Rattle.file_puts.specs.Written.{WritesFile}
-use Rattle.change_steps.specs.Found.{HasChange, Finds}
-use Rattle.change_steps.specs.Changes.{change_reply}
+use Rattle.written_clusters.specs.step_model.Steps.{Step}
+use Rattle.written_clusters.specs.data_plan.declared.change.DataChange.{DataChange}
+use Rattle.written_clusters.specs.data_plan.Changes.{row_of}
+use Rattle.file_writes.specs.file_puts.declared.streams.VolumeStreams.{VolumeStreams}
+use Rattle.file_writes.specs.file_puts.Written.{WritesFile}
+use Rattle.written_clusters.specs.change_steps.Found.{HasChange, Finds}
+use Rattle.written_clusters.specs.change_steps.Changes.{change_reply}
 use Rattle.written_clusters.specs.Done.{HasClusters}
 
 -- A file is found to be written or cut, no row of its record refuses it, as many clusters are clear as its data comes to take, and the draft

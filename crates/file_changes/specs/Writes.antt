@@ -4,13 +4,13 @@ use Rattle.disk_model.specs.Content.{Content}
 use Rattle.record_model.specs.Records.{Record}
 use Rattle.file_tree.specs.declared.node.Node.{Node}
 use Rattle.state_model.specs.declared.geometry.Geometry.{Geometry}
-use Rattle.volume_model.specs.Volumes.{Volume, cluster_bits}
+use Rattle.written_clusters.specs.volume_model.Volumes.{Volume, cluster_bits}
 use Rattle.tree_model.specs.declared.script.Op.{Op}
 use Rattle.plan_draft.specs.declared.touched.Touched.{Touched}
-use Rattle.data_plan.specs.declared.change.DataChange.{DataChange}
-use Rattle.data_plan.specs.Changes.{growth_of}
-use Rattle.file_puts.specs.declared.streams.VolumeStreams.{VolumeStreams}
-use Rattle.file_puts.specs.Written.{WritesFile, HasWritten}
+use Rattle.written_clusters.specs.data_plan.declared.change.DataChange.{DataChange}
+use Rattle.written_clusters.specs.data_plan.Changes.{growth_of}
+use Rattle.file_writes.specs.file_puts.declared.streams.VolumeStreams.{VolumeStreams}
+use Rattle.file_writes.specs.file_puts.Written.{WritesFile, HasWritten}
 use Rattle.written_clusters.specs.Done.{HasClusters}
 
 -- Where as many clusters are clear as the data comes to take, what the draft has put leads to a state, and the operation has changed the

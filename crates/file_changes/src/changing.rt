@@ -7,16 +7,14 @@ ghost use Rattle.file_changes.specs.Changes.{ChangesFile};
 
 use crate::laws::{writes_are_done, writes_are_steps};
 use block_view::View;
-use change_steps::{bare_is_enough, changes_are_steps, files_are_ready};
-use file_puts::VolumeStreams;
-use file_record::FileRec;
 use file_tree::Node;
-use file_writes::{WriteFault, write_file};
+use file_writes::{FileRec, VolumeStreams, WriteFault, write_file};
 use plan_draft::Draft;
 use plan_space::FreeBits;
 use state_model::ClusterSize;
 use std::alloc::Global;
 use tree_model::Op;
+use written_clusters::{bare_is_enough, changes_are_steps, files_are_ready};
 
 /// Writes or cuts the file that an operation was found to change
 /// ([`change_found`](change_lookup::change_found)), in a draft that touched nothing before

@@ -2,9 +2,10 @@
 ghost use Rattle.file_changes.specs.Writes.{WritesAreDone};
 ghost use Rattle.file_changes.specs.Steps.{WritesAreSteps};
 
-use change_steps::{changes_are_steps, drafts_are_written};
-use written_clusters::{growth_is_done, leaving_is_done, longer_is_done};
-use written_values::{cuts_are_done, shorter_are_done, values_are_done};
+use written_clusters::{
+    changes_are_steps, cuts_are_done, drafts_are_written, growth_is_done, leaving_is_done,
+    longer_is_done, shorter_are_done, values_are_done,
+};
 
 /// Law: where a draft has put what comes of a file's data, which has clusters enough, it stands for a
 /// state, and the operation has changed the tree and left the content as a step says.

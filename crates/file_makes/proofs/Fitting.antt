@@ -9,15 +9,15 @@ use Rattle.disk_model.specs.declared.block.Change.{Change}
 use Rattle.disk_model.specs.Sectors.{sectors}
 use Rattle.record_model.specs.Records.{Record, used_of}
 use Rattle.record_model.proofs.NodeSpelling.{length-node_spelling}
-use Rattle.record_writer.specs.NormalLaws.{FitsByRoom}
+use Rattle.file_puts.specs.record_writer.NormalLaws.{FitsByRoom}
 use Rattle.index_model.specs.Indexes.{Place}
 use Rattle.index_plan.specs.declared.write.Write.{Write}
 use Rattle.index_node.specs.Roots.{new_node}
-use Rattle.index_change.specs.declared.nodes_plan.NodesPlan.{NodesPlan}
-use Rattle.index_change.specs.declared.plan.DirPlan.{DirPlan}
-use Rattle.index_change.specs.Changing.{PutNodes}
-use Rattle.index_change.specs.NodePlans.{LaysOut}
-use Rattle.draft_records.specs.Records.{written_bytes, SpelledFitsByRoom}
+use Rattle.file_puts.specs.index_change.declared.nodes_plan.NodesPlan.{NodesPlan}
+use Rattle.file_puts.specs.index_change.declared.plan.DirPlan.{DirPlan}
+use Rattle.file_puts.specs.index_change.Changing.{PutNodes}
+use Rattle.file_puts.specs.index_change.NodePlans.{LaysOut}
+use Rattle.file_puts.specs.draft_records.Records.{written_bytes, SpelledFitsByRoom}
 use Rattle.new_files.specs.NewFiles.{new_record}
 use Rattle.new_files.specs.Laws.{HasFields, NewFileReads}
 use Rattle.file_makes.specs.Making.{IsWhole, AreWhole}

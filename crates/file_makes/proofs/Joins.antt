@@ -7,18 +7,18 @@ use Rattle.host_base.specs.Answers.{needs}
 use Rattle.disk_model.specs.declared.block.Change.{Change}
 use Rattle.disk_model.specs.Content.{Content}
 use Rattle.record_model.specs.Records.{Record, record_spelling}
-use Rattle.record_writer.specs.NormalLaws.{FitsByRoom}
+use Rattle.file_puts.specs.record_writer.NormalLaws.{FitsByRoom}
 use Rattle.state_model.specs.declared.stream.Extents.{Extents}
 use Rattle.plan_draft.specs.declared.touched.Touched.{Touched}
 use Rattle.plan_draft.specs.Touching.{touch}
 use Rattle.plan_draft.specs.Drafts.{drafted}
 use Rattle.draft_numbers.specs.Numbers.{number_bytes}
-use Rattle.draft_records.specs.Records.{written_record, written_bytes, fits_room, touch_record}
+use Rattle.file_puts.specs.draft_records.Records.{written_record, written_bytes, fits_room, touch_record}
 use Rattle.index_model.specs.Indexes.{Place}
-use Rattle.index_change.specs.declared.nodes_plan.NodesPlan.{NodesPlan}
-use Rattle.index_change.specs.declared.plan.DirPlan.{DirPlan}
-use Rattle.index_change.specs.NodePlans.{LaysOut}
-use Rattle.index_change.specs.Plans.{clusters_of}
+use Rattle.file_puts.specs.index_change.declared.nodes_plan.NodesPlan.{NodesPlan}
+use Rattle.file_puts.specs.index_change.declared.plan.DirPlan.{DirPlan}
+use Rattle.file_puts.specs.index_change.NodePlans.{LaysOut}
+use Rattle.file_puts.specs.index_change.Plans.{clusters_of}
 use Rattle.new_files.specs.NewFiles.{new_record}
 use Rattle.file_puts.specs.declared.streams.VolumeStreams.{VolumeStreams}
 use Rattle.file_puts.specs.Puts.{PutsFileRecord}

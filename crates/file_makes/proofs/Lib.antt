@@ -1,3 +1,14 @@
+pub use Rattle.file_puts.proofs.draft_resized
+pub use Rattle.file_puts.proofs.index_change
+pub use Rattle.file_puts.proofs.plan_edits
+pub use Rattle.file_puts.proofs.plan_growth
+pub use Rattle.file_puts.proofs.plan_informed
+pub use Rattle.file_puts.proofs.plan_model
+pub use Rattle.file_puts.proofs.plan_owners
+pub use Rattle.file_puts.proofs.plan_values
+pub use Rattle.file_puts.proofs.record_streams
+pub use Rattle.file_puts.proofs.tree_laws
+pub use Rattle.new_files.proofs.step_model
 pub mod Lsns
 pub mod Fitting
 pub mod Joins

@@ -7,7 +7,7 @@ use Rattle.volume_model.specs.Volumes.{block_bytes}
 use Rattle.plan_draft.specs.declared.touched.Touched.{Touched}
 use Rattle.plan_draft.specs.Drafts.{drafted}
 use Rattle.draft_numbers.specs.Numbers.{number_bytes}
-use Rattle.draft_records.specs.Records.{record_block, is_past}
+use Rattle.file_puts.specs.draft_records.Records.{record_block, is_past}
 use Rattle.file_makes.specs.Making.{kept_lsn}
 
 none_written : kept_lsn [] ≡ 0

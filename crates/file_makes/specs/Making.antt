@@ -11,20 +11,20 @@ use Rattle.record_model.specs.declared.entry.Entry.{Entry}
 use Rattle.state_model.specs.declared.stream.Extents.{Extents}
 use Rattle.index_model.specs.Indexes.{Place}
 use Rattle.index_node.specs.Roots.{root_spelling}
-use Rattle.index_change.specs.declared.nodes_plan.NodesPlan.{NodesPlan}
-use Rattle.index_change.specs.declared.plan.DirPlan.{DirPlan}
-use Rattle.index_change.specs.NodePlans.{LaysOut}
-use Rattle.index_change.specs.Plans.{clusters_of}
+use Rattle.file_puts.specs.index_change.declared.nodes_plan.NodesPlan.{NodesPlan}
+use Rattle.file_puts.specs.index_change.declared.plan.DirPlan.{DirPlan}
+use Rattle.file_puts.specs.index_change.NodePlans.{LaysOut}
+use Rattle.file_puts.specs.index_change.Plans.{clusters_of}
 use Rattle.plan_draft.specs.declared.touched.Touched.{Touched}
 use Rattle.plan_draft.specs.Touching.{touch}
 use Rattle.plan_draft.specs.Drafts.{drafted}
-use Rattle.draft_bits.specs.Filling.{PutsBits}
+use Rattle.file_puts.specs.draft_bits.Filling.{PutsBits}
 use Rattle.draft_numbers.specs.Numbers.{number_bytes}
-use Rattle.draft_records.specs.Records.{written_bytes}
-use Rattle.draft_records.specs.declared.fault.DraftFault.{DraftFault}
-use Rattle.draft_records.specs.declared.fault.DraftFault.TheVariants.{Full, Fault, Memory}
-use Rattle.record_streams.specs.Fitting.{FitsButRoom}
-use Rattle.record_values.specs.Values.{valued_record}
+use Rattle.file_puts.specs.draft_records.Records.{written_bytes}
+use Rattle.file_puts.specs.draft_records.declared.fault.DraftFault.{DraftFault}
+use Rattle.file_puts.specs.draft_records.declared.fault.DraftFault.TheVariants.{Full, Fault, Memory}
+use Rattle.file_puts.specs.record_streams.Fitting.{FitsButRoom}
+use Rattle.file_puts.specs.record_values.Values.{valued_record}
 use Rattle.new_files.specs.NewFiles.{new_record}
 use Rattle.file_puts.specs.declared.streams.VolumeStreams.{VolumeStreams}
 use Rattle.file_puts.specs.Puts.{PutsFileRecord}

@@ -13,11 +13,10 @@ mod nodes;
 mod puts;
 
 pub use block_view::View;
-pub use draft_records::DraftFault;
-pub use file_puts::VolumeStreams;
-pub use file_record::FileRec;
-pub use index_change::{DirPlace, NodesPlan};
+pub use draft_numbers::DraftFault;
+pub use file_puts::{DirPlace, NodesPlan, VolumeStreams, times_are_set};
 pub use making::make_file;
+pub use new_files::{FileRec, new_file_reads};
 pub use newfile::NewFile;
 pub use plan_draft::Draft;
 pub use state_model::{ClusterSize, Extents};

@@ -8,7 +8,7 @@ ghost use Rattle.file_makes.specs.Making.{kept_lsn};
 
 use block_view::{View, ViewFault};
 use disk_model::{Block, BlockKind, Body, u64_at};
-use draft_records::is_past;
+use draft_numbers::is_past;
 use plan_draft::Draft;
 use state_model::{ClusterSize, Extents};
 use std::alloc::Global;

@@ -1,15 +1,15 @@
 //! The nodes of a directory's index, laid out and put into a draft.
 ghost use Rattle.std.specs.Prelude.{◌≡◌, false, IfOk, IfSome, OnOk};
 ghost use Rattle.block_view.specs.Views.{AsksView};
-ghost use Rattle.index_change.specs.NodePlans.{LaysOut};
-ghost use Rattle.index_change.specs.Plans.{clusters_of};
-ghost use Rattle.index_tree.specs.Places.{place_of};
+ghost use Rattle.file_puts.specs.index_change.NodePlans.{LaysOut};
+ghost use Rattle.file_puts.specs.index_change.Plans.{clusters_of};
+ghost use Rattle.file_puts.specs.index_tree.Places.{place_of};
 ghost use Rattle.plan_draft.specs.Faults.{fault_cause};
 ghost use Rattle.plan_draft.specs.Touching.{touch};
 ghost use Rattle.file_makes.specs.Making.{touch_nodes, IsWhole, AreWhole};
 
 use block_view::{Change, View, ViewFault};
-use index_change::{DirPlace, DirPlan, NodesPlan, lay_out};
+use file_puts::{DirPlace, DirPlan, NodesPlan, lay_out};
 use plan_draft::Draft;
 use std::alloc::Global;
 

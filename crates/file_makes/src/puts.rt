@@ -1,15 +1,15 @@
 //! Records that have room, put into a draft.
 ghost use Rattle.std.specs.Prelude.{◌≡◌, ◌<◌, ◌≤◌, ◌^◌, IfSome, OnOk};
 ghost use Rattle.block_view.specs.Views.{AsksView};
-ghost use Rattle.record_writer.specs.NormalLaws.{FitsByRoom};
+ghost use Rattle.file_puts.specs.record_writer.NormalLaws.{FitsByRoom};
 ghost use Rattle.plan_draft.specs.Faults.{fault_cause};
-ghost use Rattle.draft_records.specs.Records.{written_bytes};
+ghost use Rattle.file_puts.specs.draft_records.Records.{written_bytes};
 ghost use Rattle.file_puts.specs.Puts.{PutsFileRecord};
 
 use block_view::{View, ViewFault};
-use draft_records::{DraftFault, put_file};
+use draft_numbers::{DraftFault, put_file};
 use file_puts::VolumeStreams;
-use file_record::FileRec;
+use new_files::FileRec;
 use plan_draft::Draft;
 use state_model::ClusterSize;
 use std::alloc::Global;

@@ -1,2 +1,32 @@
+pub use Rattle.data_plan.specs as data_plan
+pub use Rattle.data_plan.specs.step_model
+pub use Rattle.record_times.specs as record_times
+pub use Rattle.record_times.specs.draft_bits
+pub use Rattle.record_times.specs.draft_records
+pub use Rattle.record_times.specs.draft_resized
+pub use Rattle.record_times.specs.draft_runs
+pub use Rattle.record_times.specs.draft_streams
+pub use Rattle.record_times.specs.index_change
+pub use Rattle.record_times.specs.index_model
+pub use Rattle.record_times.specs.index_tree
+pub use Rattle.record_times.specs.plan_changes
+pub use Rattle.record_times.specs.plan_draft
+pub use Rattle.record_times.specs.plan_edits
+pub use Rattle.record_times.specs.plan_growth
+pub use Rattle.record_times.specs.plan_informed
+pub use Rattle.record_times.specs.plan_model
+pub use Rattle.record_times.specs.plan_owners
+pub use Rattle.record_times.specs.plan_values
+pub use Rattle.record_times.specs.record_streams
+pub use Rattle.record_times.specs.record_values
+pub use Rattle.record_times.specs.record_writer
+pub use Rattle.record_times.specs.resized_streams
+pub use Rattle.record_times.specs.space_model
+pub use Rattle.record_times.specs.state_model
+pub use Rattle.record_times.specs.stream_laws
+pub use Rattle.record_times.specs.stream_runs
+pub use Rattle.record_times.specs.tree_laws
+pub use Rattle.record_times.specs.volume_model
+pub use Rattle.record_times.specs.volume_state
 pub mod Puts
 pub mod Written

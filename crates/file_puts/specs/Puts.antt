@@ -1,28 +1,28 @@
 -- What a draft puts of a file that an operation writes or cuts, one body after the other.
 use Rattle.std.specs.Prelude.{◌≡◌, ℕ, ◌+◌, ◌/◌, Bool, true, false, List, [], Ok, Some}
 use Rattle.disk_model.specs.Content.{Content}
-use Rattle.record_model.specs.Constants.{data_type}
-use Rattle.record_model.specs.Records.{Record, record_spelling}
-use Rattle.record_writer.specs.NormalLaws.{FitsByRoom}
+use Rattle.record_times.specs.record_model.Constants.{data_type}
+use Rattle.record_times.specs.record_model.Records.{Record, record_spelling}
+use Rattle.record_times.specs.record_writer.NormalLaws.{FitsByRoom}
 use Rattle.file_tree.specs.declared.node.Node.{Node}
-use Rattle.state_model.specs.declared.stream.Extents.{Extents}
-use Rattle.state_model.specs.declared.stream.Stream.TheVariants.{Held, Placed}
-use Rattle.tree_model.specs.declared.script.Op.{Op}
-use Rattle.tree_model.specs.Needs.{size_after, shrinks}
-use Rattle.tree_model.specs.Effects.{valid_after, bytes_after}
-use Rattle.plan_draft.specs.declared.touched.Touched.{Touched}
-use Rattle.draft_streams.specs.Parts.{touch_bytes}
-use Rattle.draft_records.specs.Records.{written_record, fits_room, touch_record}
-use Rattle.record_values.specs.Values.{valued_record}
+use Rattle.record_times.specs.state_model.declared.stream.Extents.{Extents}
+use Rattle.record_times.specs.state_model.declared.stream.Stream.TheVariants.{Held, Placed}
+use Rattle.record_times.specs.tree_model.declared.script.Op.{Op}
+use Rattle.record_times.specs.tree_model.Needs.{size_after, shrinks}
+use Rattle.record_times.specs.tree_model.Effects.{valid_after, bytes_after}
+use Rattle.record_times.specs.plan_draft.declared.touched.Touched.{Touched}
+use Rattle.record_times.specs.draft_streams.Parts.{touch_bytes}
+use Rattle.record_times.specs.draft_records.Records.{written_record, fits_room, touch_record}
+use Rattle.record_times.specs.record_values.Values.{valued_record}
 use Rattle.record_times.specs.Times.{timed_record}
-use Rattle.resized_streams.specs.declared.resized.Resized.{Resized}
-use Rattle.resized_streams.specs.Resizing.{IsSized}
-use Rattle.draft_resized.specs.Resized.{PutsResized}
-use Rattle.draft_resized.specs.Moved.{PutsMoved}
+use Rattle.record_times.specs.resized_streams.declared.resized.Resized.{Resized}
+use Rattle.record_times.specs.resized_streams.Resizing.{IsSized}
+use Rattle.record_times.specs.draft_resized.Resized.{PutsResized}
+use Rattle.record_times.specs.draft_resized.Moved.{PutsMoved}
 use Rattle.data_plan.specs.declared.change.DataChange.{DataChange}
 use Rattle.data_plan.specs.declared.change.DataChange.TheVariants as change
 use Rattle.data_plan.specs.Changes.{data_in}
-use Rattle.plan_changes.specs.Bytes.{place_of, put_of}
+use Rattle.record_times.specs.plan_changes.Bytes.{place_of, put_of}
 use Rattle.file_puts.specs.declared.streams.VolumeStreams.{VolumeStreams}
 
 -- a record that has room is put

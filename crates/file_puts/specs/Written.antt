@@ -2,28 +2,28 @@
 use Rattle.std.specs.Prelude.{◌≡◌, ℕ, ◌<◌, ◌≤◌, ◌^◌, true, List, [], ◌∷◌, Option, None}
 use Rattle.disk_model.specs.declared.block.BlockKind.{BlockKind}
 use Rattle.disk_model.specs.Content.{Content, HasSizes}
-use Rattle.record_model.specs.Pairs.{cluster_limit}
-use Rattle.record_model.specs.Records.{Record}
+use Rattle.record_times.specs.record_model.Pairs.{cluster_limit}
+use Rattle.record_times.specs.record_model.Records.{Record}
 use Rattle.file_tree.specs.declared.node.Node.{Node}
-use Rattle.state_model.specs.declared.geometry.Geometry.{Geometry}
-use Rattle.state_model.specs.Loads.{extents_or}
-use Rattle.volume_model.specs.Volumes.{Volume, cluster_bits}
-use Rattle.volume_state.specs.Trees.{tree_of}
-use Rattle.stream_laws.specs.Sharing.{stream_at}
-use Rattle.tree_model.specs.declared.script.Op.{Op}
-use Rattle.tree_model.specs.Needs.{changes_file, needed}
-use Rattle.tree_model.specs.Effects.{HasChanged}
-use Rattle.plan_owners.specs.States.{Stands}
+use Rattle.record_times.specs.state_model.declared.geometry.Geometry.{Geometry}
+use Rattle.record_times.specs.state_model.Loads.{extents_or}
+use Rattle.record_times.specs.volume_model.Volumes.{Volume, cluster_bits}
+use Rattle.record_times.specs.volume_state.Trees.{tree_of}
+use Rattle.record_times.specs.stream_laws.Sharing.{stream_at}
+use Rattle.record_times.specs.tree_model.declared.script.Op.{Op}
+use Rattle.record_times.specs.tree_model.Needs.{changes_file, needed}
+use Rattle.record_times.specs.tree_model.Effects.{HasChanged}
+use Rattle.record_times.specs.plan_owners.States.{Stands}
 use Rattle.plan_bodies.specs.Bodies.{NewBody, content_with}
-use Rattle.plan_draft.specs.declared.touched.Touched.{Touched}
-use Rattle.plan_draft.specs.Touching.{bodies_of}
-use Rattle.plan_draft.specs.Drafts.{drafted}
-use Rattle.plan_draft.specs.Same.{PutSame}
-use Rattle.plan_model.specs.Drafts.{DraftIn}
-use Rattle.plan_edits.specs.Edits.{mirror_key, HasBitmap}
-use Rattle.plan_changes.specs.Files.{IsChangeable}
-use Rattle.step_model.specs.Placing.{Growth}
-use Rattle.step_model.specs.Contents.{IsLeft}
+use Rattle.record_times.specs.plan_draft.declared.touched.Touched.{Touched}
+use Rattle.record_times.specs.plan_draft.Touching.{bodies_of}
+use Rattle.record_times.specs.plan_draft.Drafts.{drafted}
+use Rattle.record_times.specs.plan_draft.Same.{PutSame}
+use Rattle.record_times.specs.plan_model.Drafts.{DraftIn}
+use Rattle.record_times.specs.plan_edits.Edits.{mirror_key, HasBitmap}
+use Rattle.record_times.specs.plan_changes.Files.{IsChangeable}
+use Rattle.data_plan.specs.step_model.Placing.{Growth}
+use Rattle.data_plan.specs.step_model.Contents.{IsLeft}
 use Rattle.data_plan.specs.declared.change.DataChange.{DataChange}
 use Rattle.data_plan.specs.Changes.{HasData, growth_of, IsChange}
 use Rattle.file_puts.specs.declared.streams.VolumeStreams.{VolumeStreams}

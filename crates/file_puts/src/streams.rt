@@ -1,4 +1,4 @@
-use state_model::Extents;
+use record_times::Extents;
 
 /// The streams of a volume that a plan of a file changes besides the file's own: where the records
 /// lie, those of their mirror, and the bits of the clusters, in the clusters of the data of `$MFT`,

@@ -3,9 +3,9 @@ use Rattle.std.proofs.Common.{◌≡◌, ◌≢◌, ℕ, suc, ◌+◌, ◌-◌, 
 use Rattle.std.proofs.lemmas.List.{append-nil, length-take-le}
 use Rattle.std.proofs.lemmas.Bool.Decides.{nat_tests}
 use Rattle.std.specs.List.{list_all}
-use Rattle.host_base.specs.Answers.{◌>>=◌, needs, Explains}
-use Rattle.disk_model.specs.Numbers.{field}
-use Rattle.disk_model.proofs.Fields.{field-take}
+use Rattle.state_model.specs.host_base.Answers.{◌>>=◌, needs, Explains}
+use Rattle.record_model.specs.disk_model.Numbers.{field}
+use Rattle.record_model.proofs.disk_model.Fields.{field-take}
 use Rattle.record_model.specs.declared.attribute.Attr.{Attr}
 use Rattle.record_model.specs.Attributes.{has_length, is_inside, head_of, attr_of}
 use Rattle.record_model.specs.Values.{has_lawful_value}

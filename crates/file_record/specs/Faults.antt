@@ -1,6 +1,6 @@
 -- Where an error of the reader comes from.
 use Rattle.std.specs.Prelude.{ℕ}
-use Rattle.host_base.specs.Answers.{Cause, refused, no_memory}
+use Rattle.state_model.specs.host_base.Answers.{Cause, refused, no_memory}
 use Rattle.file_record.specs.declared.fault.RecFault.{RecFault}
 use Rattle.file_record.specs.declared.fault.RecFault.TheVariants.{Rule, Memory}
 

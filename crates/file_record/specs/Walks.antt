@@ -1,8 +1,8 @@
 -- The walk over the bytes of a record's attributes.
 use Rattle.std.specs.Prelude.{ℕ, nat_le, ◌&&◌, Bool, true, false, if◌then◌else◌, List, [], ◌∷◌, ◌++◌, map, Result, Ok}
 use Rattle.std.specs.List.{list_all}
-use Rattle.host_base.specs.Answers.{◌>>=◌, needs}
-use Rattle.disk_model.specs.Numbers.{field}
+use Rattle.state_model.specs.host_base.Answers.{◌>>=◌, needs}
+use Rattle.record_model.specs.disk_model.Numbers.{field}
 use Rattle.record_model.specs.declared.attribute.Attr.{Attr}
 use Rattle.record_model.specs.Attributes.{has_length, is_inside, attr_of}
 use Rattle.record_model.specs.Values.{has_lawful_value}

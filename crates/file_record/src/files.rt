@@ -5,7 +5,7 @@ ghost use Rattle.state_model.specs.Files.{is_base_record, only_base, file_at, re
 ghost use Rattle.state_model.specs.Loads.{table_in};
 
 use crate::record::FileRec;
-use host_base::FileRef;
+use state_model::FileRef;
 
 /// Whether the record is a base record: its reference to a base record is zero (Linux-NTFS
 /// documentation, "FILE Record"). It takes constant time.

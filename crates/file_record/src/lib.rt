@@ -10,8 +10,10 @@ mod files;
 mod record;
 mod walk;
 
+pub use attr_codec::{AttrRef, Form, read, write_mapped, write_resident};
 pub use fault::RecFault;
 pub use files::{file_at, is_base_record, record_at, reference};
 pub use record::{FileRec, Shaped};
-pub use record_model::{Attr, AttrList, Head, OwnForm, RecHead, Sizes};
-pub use utf16_name::Units;
+pub use record_model::{Attr, AttrList, Head, OwnForm, RecHead, Sizes, Units};
+pub use state_model::{FileRef, Memory, is_same_reference};
+pub use std_values::{FixedValue, NamedValue, is_file_name};

@@ -1,14 +1,14 @@
 ghost use Rattle.std.specs.Prelude.{◌≡◌, ◌++◌, [], ◌∷◌, true, length, IfOk, OnOk, OnErr};
-ghost use Rattle.host_base.specs.Answers.{Gives};
+ghost use Rattle.state_model.specs.host_base.Answers.{Gives};
 ghost use Rattle.record_model.specs.Records.{has_first, has_size, attribute_bytes, rec_head_of, record_at, shaped_at, has_lawful_values};
 ghost use Rattle.file_record.specs.Faults.{rec_cause};
 ghost use Rattle.file_record.specs.Walks.{attributes_at};
 
 use crate::fault::RecFault;
 use crate::walk::{Attributes, attributes_at};
-use disk_model::{u16_at, u32_at, u64_at};
-use host_base::FileRef;
+use attr_codec::{u16_at, u32_at, u64_at};
 use record_model::{Attr, AttrList, RecHead};
+use state_model::FileRef;
 use std::alloc::{AllocError, Global};
 use std::marker::Model;
 

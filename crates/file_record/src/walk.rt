@@ -1,5 +1,5 @@
 ghost use Rattle.std.specs.Prelude.{◌≡◌, ◌≤◌, OnOk, length};
-ghost use Rattle.host_base.specs.Answers.{Gives};
+ghost use Rattle.state_model.specs.host_base.Answers.{Gives};
 ghost use Rattle.record_model.specs.Records.{is_end_mark};
 ghost use Rattle.record_model.specs.Values.{has_lawful_value};
 ghost use Rattle.attr_codec.specs.Reading.{own_bytes, attr_seen};
@@ -7,8 +7,7 @@ ghost use Rattle.file_record.specs.Faults.{rec_cause};
 ghost use Rattle.file_record.specs.Walks.{length_at, nothing_found, with_attr, with_outside, with_found, verdict_of, attributes_at};
 
 use crate::fault::RecFault;
-use attr_codec::{AttrFault, AttrRef, Form, read};
-use disk_model::u32_at;
+use attr_codec::{AttrFault, AttrRef, Form, read, u32_at};
 use record_model::{AttrList, END_MARK, FILE_NAME, MOST_ATTRIBUTES, STANDARD_INFORMATION, StdInfo};
 use std::alloc::{AllocError, Global};
 use std_values::{FixedValue, is_file_name};

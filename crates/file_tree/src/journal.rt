@@ -1,9 +1,8 @@
 ghost use Rattle.std.specs.Prelude.{◌≡◌, [], ◌∷◌, ◌++◌, IfOk, OnOk, OnErr};
 
-use host_base::FileRef;
 use std::alloc::{AllocError, Global};
 use std::marker::Model;
-use utf16_name::Name;
+use utf16_name::{FileRef, Name};
 
 /// A record of the change journal (Microsoft's reference, "USN_RECORD_V2").
 #[derive(Debug, PartialEq, Eq, Drop)]

@@ -14,10 +14,9 @@ mod ordering;
 mod tree;
 
 pub use choosing::{chosen, chosen_link, sort_links};
-pub use host_base::{Bytes, FileRef};
 pub use journal::{Journal, Usn, UsnList};
 pub use link::{FileRefList, Link, LinkList, SHORT, WIN32};
 pub use node::{Kind, Node, NodeList, Why};
 pub use ordering::{compare_names, is_same_name};
 pub use tree::{FIRST_USER_RECORD, ROOT, Tree};
-pub use utf16_name::{Name, Units};
+pub use utf16_name::{Bytes, FileRef, Memory, Name, NameFault, Units, check};

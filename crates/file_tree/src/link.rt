@@ -1,9 +1,8 @@
 ghost use Rattle.std.specs.Prelude.{◌≡◌, [], ◌∷◌, ◌++◌, IfOk, OnOk, OnErr};
 
-use host_base::FileRef;
 use std::alloc::{AllocError, Global};
 use std::marker::Model;
-use utf16_name::Name;
+use utf16_name::{FileRef, Name};
 
 /// The namespace of Win32 (Linux-NTFS documentation, "$FILE_NAME").
 pub const WIN32: u8 = 1;
@@ -106,7 +105,7 @@ pub struct FileRefList {
 
 impl Model for FileRefList {
     ghost use Rattle.std.specs.Prelude.{List};
-    ghost use Rattle.host_base.specs.declared.file_ref.FileRef.{FileRef};
+    ghost use Rattle.utf16_name.specs.host_base.declared.file_ref.FileRef.{FileRef};
 
     ghost Value = { List FileRef };
 

@@ -1,8 +1,8 @@
 ghost use Rattle.std.specs.Prelude.{◌≡◌, [], ◌∷◌, ◌++◌, IfOk, OnOk, OnErr};
 
-use host_base::Bytes;
 use std::alloc::{AllocError, Global};
 use std::marker::Model;
+use utf16_name::Bytes;
 
 /// What kind of file a node is.
 #[derive(Clone, Copy, Debug, PartialEq, Eq)]

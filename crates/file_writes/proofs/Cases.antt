@@ -10,36 +10,36 @@ use Rattle.state_model.specs.declared.stream.Stream.TheVariants.{Held, Placed}
 use Rattle.state_model.specs.Files.{has_type}
 use Rattle.state_model.specs.Loads.{total_clusters}
 use Rattle.state_model.specs.Streams.{attributes_of}
-use Rattle.volume_model.specs.Volumes.{size_or}
-use Rattle.volume_model.specs.Nodes.{valid_or, clusters_or}
+use Rattle.file_puts.specs.volume_model.Volumes.{size_or}
+use Rattle.file_puts.specs.volume_model.Nodes.{valid_or, clusters_or}
 use Rattle.tree_model.specs.declared.script.Op.{Op}
 use Rattle.tree_model.specs.Needs.{size_after, clusters_for}
 use Rattle.tree_model.specs.Effects.{valid_after, bytes_after, clusters_after}
-use Rattle.record_streams.specs.Fitting.{FitsButRoom}
-use Rattle.record_streams.specs.Placing.{placed_record}
-use Rattle.record_streams.proofs.Spelled.{total_few}
-use Rattle.record_values.specs.Values.{valued_record}
-use Rattle.resized_streams.specs.declared.resized.Resized.{Resized}
-use Rattle.resized_streams.specs.Resizing.{IsSized}
-use Rattle.draft_records.specs.Records.{written_record, written_bytes}
-use Rattle.record_times.specs.Times.{timed_record}
-use Rattle.step_model.specs.Placing.{Growth}
-use Rattle.step_model.specs.Streams.{Comes}
-use Rattle.used_laws.proofs.Beside.{used}
-use Rattle.data_plan.specs.declared.change.DataChange.{DataChange}
-use Rattle.data_plan.specs.declared.change.DataChange.TheVariants as change
-use Rattle.data_plan.specs.Changes.{IsChange, IsReadyChange, data_in, ShowsData, HasData, BeginsAtZero, LiesBelow, StandsBelow, IsHeld, growth_of, IsTaken, Stays, Leaves, Grows, IsCutOff, ChangesSizes, IsReady}
-use Rattle.data_plan.proofs.Cases.{placed_comes}
-use Rattle.data_plan.proofs.Taking.{there_is, some_data, as_value_bytes}
+use Rattle.file_puts.specs.record_streams.Fitting.{FitsButRoom}
+use Rattle.file_puts.specs.record_streams.Placing.{placed_record}
+use Rattle.file_puts.proofs.record_streams.Spelled.{total_few}
+use Rattle.file_puts.specs.record_values.Values.{valued_record}
+use Rattle.file_puts.specs.resized_streams.declared.resized.Resized.{Resized}
+use Rattle.file_puts.specs.resized_streams.Resizing.{IsSized}
+use Rattle.file_puts.specs.draft_records.Records.{written_record, written_bytes}
+use Rattle.file_puts.specs.record_times.Times.{timed_record}
+use Rattle.file_puts.specs.step_model.Placing.{Growth}
+use Rattle.file_puts.specs.step_model.Streams.{Comes}
+use Rattle.file_puts.proofs.used_laws.Beside.{used}
+use Rattle.file_puts.specs.data_plan.declared.change.DataChange.{DataChange}
+use Rattle.file_puts.specs.data_plan.declared.change.DataChange.TheVariants as change
+use Rattle.file_puts.specs.data_plan.Changes.{IsChange, IsReadyChange, data_in, ShowsData, HasData, BeginsAtZero, LiesBelow, StandsBelow, IsHeld, growth_of, IsTaken, Stays, Leaves, Grows, IsCutOff, ChangesSizes, IsReady}
+use Rattle.file_puts.proofs.data_plan.Cases.{placed_comes}
+use Rattle.file_puts.proofs.data_plan.Taking.{there_is, some_data, as_value_bytes}
 use Rattle.file_puts.specs.declared.streams.VolumeStreams.{VolumeStreams}
 use Rattle.file_puts.specs.Puts.{with_bytes}
 use Rattle.tree_model.specs.declared.reply.Reply.{Reply}
 use Rattle.block_view.specs.declared.fault.ViewFault.{ViewFault}
 use Rattle.block_view.specs.declared.fault.ViewFault.TheVariants as view
 use Rattle.plan_draft.specs.declared.touched.Touched.{Touched}
-use Rattle.data_plan.specs.declared.fault.DataFault.{DataFault}
-use Rattle.data_plan.specs.declared.fault.DataFault.TheVariants as of
-use Rattle.data_plan.specs.Faults.{IsShortFault as IsShortData, IsRowFault as IsRowData}
+use Rattle.file_puts.specs.data_plan.declared.fault.DataFault.{DataFault}
+use Rattle.file_puts.specs.data_plan.declared.fault.DataFault.TheVariants as of
+use Rattle.file_puts.specs.data_plan.Faults.{IsShortFault as IsShortData, IsRowFault as IsRowData}
 use Rattle.file_writes.specs.Faults.{of_data, of_view, IsShortFault, IsRowFault, StaysWhereRefused}
 use Rattle.file_writes.specs.Writing.{HasRoom, HasPlacedData, MayWrite}
 use Rattle.file_writes.proofs.Rooms.{written_again, written_info, timed_bytes, placed_info, valued_info, sized_bytes}

@@ -6,7 +6,7 @@ use Rattle.host_base.specs.Answers.{needs}
 use Rattle.disk_model.specs.Content.{Content}
 use Rattle.record_model.specs.Constants.{data_type}
 use Rattle.record_model.specs.Records.{Record, record_spelling}
-use Rattle.record_writer.specs.NormalLaws.{FitsByRoom}
+use Rattle.file_puts.specs.record_writer.NormalLaws.{FitsByRoom}
 use Rattle.file_tree.specs.declared.node.Node.{Node}
 use Rattle.state_model.specs.declared.stream.Extents.{Extents}
 use Rattle.state_model.specs.declared.stream.Stream.TheVariants.{Held, Placed}
@@ -14,17 +14,17 @@ use Rattle.tree_model.specs.declared.script.Op.{Op}
 use Rattle.tree_model.specs.Needs.{size_after, shrinks}
 use Rattle.tree_model.specs.Effects.{valid_after, bytes_after}
 use Rattle.plan_draft.specs.declared.touched.Touched.{Touched}
-use Rattle.draft_streams.specs.Parts.{touch_bytes}
-use Rattle.draft_records.specs.Records.{written_record, written_bytes, fits_room, touch_record}
-use Rattle.resized_streams.specs.declared.resized.Resized.{Resized}
-use Rattle.resized_streams.specs.Resizing.{IsSized}
-use Rattle.draft_resized.specs.Resized.{PutsResized}
-use Rattle.draft_resized.specs.Moved.{PutsMoved}
-use Rattle.record_values.specs.Values.{valued_record}
-use Rattle.data_plan.specs.declared.change.DataChange.{DataChange}
-use Rattle.data_plan.specs.declared.change.DataChange.TheVariants as change
-use Rattle.data_plan.specs.Changes.{data_in, growth_of, IsChange}
-use Rattle.plan_changes.specs.Bytes.{place_of, put_of}
+use Rattle.file_puts.specs.draft_streams.Parts.{touch_bytes}
+use Rattle.file_puts.specs.draft_records.Records.{written_record, written_bytes, fits_room, touch_record}
+use Rattle.file_puts.specs.resized_streams.declared.resized.Resized.{Resized}
+use Rattle.file_puts.specs.resized_streams.Resizing.{IsSized}
+use Rattle.file_puts.specs.draft_resized.Resized.{PutsResized}
+use Rattle.file_puts.specs.draft_resized.Moved.{PutsMoved}
+use Rattle.file_puts.specs.record_values.Values.{valued_record}
+use Rattle.file_puts.specs.data_plan.declared.change.DataChange.{DataChange}
+use Rattle.file_puts.specs.data_plan.declared.change.DataChange.TheVariants as change
+use Rattle.file_puts.specs.data_plan.Changes.{data_in, growth_of, IsChange}
+use Rattle.file_puts.specs.plan_changes.Bytes.{place_of, put_of}
 use Rattle.file_puts.specs.declared.streams.VolumeStreams.{VolumeStreams}
 use Rattle.file_puts.specs.Puts.{PutsFileRecord, PutsFileRuns, PutsFileValue, PutsTimes, with_bytes, PutsValue, first_fresh, PutsLeaving, PutsGrowing, PutsCut, PutsShorter, PutsSized, PutsChange}
 use Rattle.file_writes.specs.Writing.{SizesPut, SizedPut, PutsWrite}

@@ -8,7 +8,7 @@ use Rattle.tree_model.specs.declared.script.Op.{Op}
 use Rattle.tree_model.specs.declared.script.Op.TheVariants as op
 use Rattle.tree_model.specs.Needs.{size_after, shrinks, clusters_for}
 use Rattle.tree_model.specs.Effects.{zeros_up_to, put_at, bytes_after, clusters_after}
-use Rattle.plan_changes.specs.Bytes.{place_of, put_of}
+use Rattle.file_puts.specs.plan_changes.Bytes.{place_of, put_of}
 use Rattle.file_puts.specs.Puts.{with_bytes}
 
 -- ---- what it puts

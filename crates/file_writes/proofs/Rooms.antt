@@ -13,21 +13,21 @@ use Rattle.record_model.specs.Attributes.{spelling}
 use Rattle.record_model.specs.Constants.{standard_information, data_type}
 use Rattle.record_model.specs.Records.{Record, spelled_bytes, used_of}
 use Rattle.record_model.specs.Values.{is_standard_information}
-use Rattle.record_writer.specs.Edits.{form_length}
-use Rattle.record_writer.specs.Normal.{normal}
-use Rattle.record_writer.proofs.Measures.{length-spelling}
+use Rattle.file_puts.specs.record_writer.Edits.{form_length}
+use Rattle.file_puts.specs.record_writer.Normal.{normal}
+use Rattle.file_puts.proofs.record_writer.Measures.{length-spelling}
 use Rattle.state_model.specs.declared.stream.Extents.{Extents}
 use Rattle.state_model.specs.Files.{has_type}
 use Rattle.state_model.specs.Streams.{is_attribute_of, sorted_into, attributes_of}
-use Rattle.plan_model.specs.Informed.{is_info}
-use Rattle.record_streams.specs.Placing.{placed_attr, without_stream, with_stream, placed_first, placed_record}
-use Rattle.record_streams.proofs.Kept.{with_none, with_one}
-use Rattle.record_streams.proofs.Streams.{attribute_kind, placed_is, first_passes, some_by, own_with, placed_one}
-use Rattle.record_values.specs.Values.{valued_attr, valued_first, valued_record}
-use Rattle.draft_records.specs.Records.{written_record, written_bytes}
-use Rattle.record_times.specs.Times.{timed_value, timed_form, timed_attr, timed_attrs, place_of_type, new_id, with_next_id, new_info, timed_record}
-use Rattle.used_laws.proofs.Lengths.{normal_length, written_used, filter_yes, filter_no}
-use Rattle.used_laws.proofs.Staying.{sizes}
+use Rattle.file_puts.specs.plan_model.Informed.{is_info}
+use Rattle.file_puts.specs.record_streams.Placing.{placed_attr, without_stream, with_stream, placed_first, placed_record}
+use Rattle.file_puts.proofs.record_streams.Kept.{with_none, with_one}
+use Rattle.file_puts.proofs.record_streams.Streams.{attribute_kind, placed_is, first_passes, some_by, own_with, placed_one}
+use Rattle.file_puts.specs.record_values.Values.{valued_attr, valued_first, valued_record}
+use Rattle.file_puts.specs.draft_records.Records.{written_record, written_bytes}
+use Rattle.file_puts.specs.record_times.Times.{timed_value, timed_form, timed_attr, timed_attrs, place_of_type, new_id, with_next_id, new_info, timed_record}
+use Rattle.file_puts.proofs.used_laws.Lengths.{normal_length, written_used, filter_yes, filter_no}
+use Rattle.file_puts.proofs.used_laws.Staying.{sizes}
 
 -- ---- a record as it is written
 

@@ -6,8 +6,8 @@ use Rattle.block_view.specs.declared.fault.ViewFault.TheVariants as view
 use Rattle.plan_draft.specs.declared.touched.Touched.{Touched}
 use Rattle.tree_model.specs.declared.reply.Reply.{Reply}
 use Rattle.tree_model.specs.declared.reply.Reply.TheVariants.{RecordFull}
-use Rattle.data_plan.specs.declared.fault.DataFault.{DataFault}
-use Rattle.data_plan.specs.declared.fault.DataFault.TheVariants as «data»
+use Rattle.file_puts.specs.data_plan.declared.fault.DataFault.{DataFault}
+use Rattle.file_puts.specs.data_plan.declared.fault.DataFault.TheVariants as «data»
 use Rattle.file_writes.specs.declared.fault.WriteFault.{WriteFault}
 use Rattle.file_writes.specs.declared.fault.WriteFault.TheVariants.{Full, Short, Fault, Memory}
 

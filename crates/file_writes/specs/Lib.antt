@@ -1,2 +1,3 @@
+pub use Rattle.file_puts.specs as file_puts
 pub mod Faults
 pub mod Writing

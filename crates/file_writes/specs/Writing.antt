@@ -5,10 +5,10 @@ use Rattle.record_model.specs.declared.attribute.Attr.{Attr}
 use Rattle.record_model.specs.Constants.{standard_information, data_type}
 use Rattle.record_model.specs.Pairs.{cluster_limit}
 use Rattle.record_model.specs.Records.{Record}
-use Rattle.record_streams.specs.Fitting.{FitsButRoom}
-use Rattle.record_streams.specs.Placing.{placed_record}
-use Rattle.resized_streams.specs.declared.resized.Resized.{Resized}
-use Rattle.resized_streams.specs.Resizing.{IsSized}
+use Rattle.file_puts.specs.record_streams.Fitting.{FitsButRoom}
+use Rattle.file_puts.specs.record_streams.Placing.{placed_record}
+use Rattle.file_puts.specs.resized_streams.declared.resized.Resized.{Resized}
+use Rattle.file_puts.specs.resized_streams.Resizing.{IsSized}
 use Rattle.file_tree.specs.declared.node.Node.{Node}
 use Rattle.state_model.specs.declared.stream.Extents.{Extents}
 use Rattle.state_model.specs.declared.stream.Stream.TheVariants.{Placed}
@@ -19,9 +19,9 @@ use Rattle.tree_model.specs.Needs.{size_after, shrinks}
 use Rattle.tree_model.specs.Effects.{valid_after}
 use Rattle.tree_model.specs.Steps.{IsWithinBounds}
 use Rattle.plan_draft.specs.declared.touched.Touched.{Touched}
-use Rattle.draft_records.specs.Records.{written_bytes}
-use Rattle.data_plan.specs.declared.change.DataChange.{DataChange}
-use Rattle.data_plan.specs.Changes.{data_in, ShowsData, HasData, GrowsLittle, growth_of, IsChange}
+use Rattle.file_puts.specs.draft_records.Records.{written_bytes}
+use Rattle.file_puts.specs.data_plan.declared.change.DataChange.{DataChange}
+use Rattle.file_puts.specs.data_plan.Changes.{data_in, ShowsData, HasData, GrowsLittle, growth_of, IsChange}
 use Rattle.file_puts.specs.declared.streams.VolumeStreams.{VolumeStreams}
 use Rattle.file_puts.specs.Puts.{PutsSizes, PutsSized, PutsChange}
 

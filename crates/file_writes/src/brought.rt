@@ -2,7 +2,7 @@
 ghost use Rattle.std.specs.Prelude.{◌≡◌, ◌+◌, ◌<◌, ◌^◌, ◌++◌, if◌then◌else◌, nat_lt, replicate, length, take, drop, IfOk};
 ghost use Rattle.tree_model.specs.Effects.{put_at, zeros_up_to, bytes_after};
 ghost use Rattle.tree_model.specs.Steps.{IsWithinBounds};
-ghost use Rattle.plan_changes.specs.Bytes.{place_of, put_of};
+ghost use Rattle.file_puts.specs.plan_changes.Bytes.{place_of, put_of};
 ghost use Rattle.file_puts.specs.Puts.{with_bytes};
 
 use file_tree::Node;

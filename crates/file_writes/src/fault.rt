@@ -1,5 +1,5 @@
 use block_view::ViewFault;
-use data_plan::DataFault;
+use file_puts::DataFault;
 use thiserror::Error;
 
 /// Why a file isn't written or cut.

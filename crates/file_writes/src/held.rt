@@ -4,28 +4,24 @@ ghost use Rattle.block_view.specs.Views.{AsksView};
 ghost use Rattle.record_model.specs.Constants.{data_type};
 ghost use Rattle.state_model.specs.declared.stream.Stream.TheVariants.{Held};
 ghost use Rattle.plan_draft.specs.Faults.{fault_cause};
-ghost use Rattle.record_values.specs.Values.{valued_record};
-ghost use Rattle.draft_records.specs.Records.{written_bytes};
+ghost use Rattle.file_puts.specs.record_values.Values.{valued_record};
+ghost use Rattle.file_puts.specs.draft_records.Records.{written_bytes};
 ghost use Rattle.tree_model.specs.Needs.{size_after};
-ghost use Rattle.record_streams.specs.Fitting.{FitsButRoom};
-ghost use Rattle.data_plan.specs.Changes.{data_in, IsHeld, IsReady};
+ghost use Rattle.file_puts.specs.record_streams.Fitting.{FitsButRoom};
+ghost use Rattle.file_puts.specs.data_plan.Changes.{data_in, IsHeld, IsReady};
 ghost use Rattle.file_puts.specs.Puts.{PutsValue, PutsLeaving};
 ghost use Rattle.file_writes.specs.Writing.{HasRoom, MayWrite};
 
 use crate::brought::bytes_after;
 use crate::puts::{put_times, put_times_behind, put_value_in_runs};
 use block_view::{View, ViewFault};
-use file_puts::VolumeStreams;
-use file_record::FileRec;
+use file_puts::{FileRec, Resized, VolumeStreams, stream_of, valued_record};
 use file_tree::Node;
 use host_base::Bytes;
 use plan_draft::Draft;
 use record_model::DATA;
-use record_values::valued_record;
-use resized_streams::Resized;
 use state_model::{ClusterSize, Stream};
 use std::alloc::{AllocError, Global};
-use stream_map::stream_of;
 use tree_model::Op;
 
 // The value that is the file's data.

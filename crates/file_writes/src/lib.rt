@@ -14,8 +14,7 @@ mod sizes;
 mod writing;
 
 pub use block_view::View;
-pub use data_plan::{ClusterSize, FileRec, FreeBits, Node, Op};
 pub use fault::WriteFault;
-pub use file_puts::VolumeStreams;
+pub use file_puts::{ClusterSize, FileRec, FreeBits, Node, Op, VolumeStreams};
 pub use plan_draft::Draft;
 pub use writing::write_file;

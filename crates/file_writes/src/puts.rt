@@ -1,23 +1,20 @@
 //! Records that have room, put into a draft.
 ghost use Rattle.std.specs.Prelude.{◌≡◌, ◌<◌, ◌≤◌, ◌^◌, IfOk, IfSome, OnOk, length};
 ghost use Rattle.block_view.specs.Views.{AsksView};
-ghost use Rattle.record_writer.specs.NormalLaws.{FitsByRoom};
+ghost use Rattle.file_puts.specs.record_writer.NormalLaws.{FitsByRoom};
 ghost use Rattle.plan_draft.specs.Faults.{fault_cause};
-ghost use Rattle.record_streams.specs.Fitting.{FitsButRoom};
-ghost use Rattle.draft_records.specs.Records.{written_record, written_bytes};
-ghost use Rattle.data_plan.specs.Changes.{IsReady};
+ghost use Rattle.file_puts.specs.record_streams.Fitting.{FitsButRoom};
+ghost use Rattle.file_puts.specs.draft_records.Records.{written_record, written_bytes};
+ghost use Rattle.file_puts.specs.data_plan.Changes.{IsReady};
 ghost use Rattle.file_puts.specs.Puts.{PutsFileRecord, PutsFileRuns, PutsFileValue, PutsTimes};
 ghost use Rattle.file_writes.specs.Writing.{HasRoom};
 
 use block_view::{View, ViewFault};
-use draft_records::{DraftFault, put_file, written_file};
-use draft_resized::{put_moved, put_resized};
-use file_puts::VolumeStreams;
-use file_record::FileRec;
+use file_puts::{
+    DraftFault, FileRec, Resized, VolumeStreams, placed_fits, put_file, put_moved, put_resized,
+    timed_record, times_are_set, written_file,
+};
 use plan_draft::Draft;
-use record_streams::placed_fits;
-use record_times::{timed_record, times_are_set};
-use resized_streams::Resized;
 use state_model::ClusterSize;
 use std::alloc::{AllocError, Global};
 

@@ -19,7 +19,7 @@ use Rattle.record_model.specs.Records.{record_spelling}
 use Rattle.record_model.specs.Nodes.{node_spelling}
 use Rattle.record_model.proofs.RecordSpelling.{spelling_signed, spelling_place}
 use Rattle.record_model.proofs.NodeSpelling.{node_signed, node_place, node_count, node_array, length-node_spelling}
-use Rattle.record_writer.proofs.Again.{read_again}
+use Rattle.volume_format.proofs.record_writer.Again.{read_again}
 use Rattle.boot_sector.specs.BootSectors.{boot_spelling}
 use Rattle.boot_sector.proofs.Spelling.{length-boot_spelling}
 use Rattle.volume_format.specs.declared.layout.Layout.{Layout}

@@ -14,7 +14,7 @@ use Rattle.record_model.proofs.PairsRead.{spelled_read}
 use Rattle.record_model.proofs.PairsSpelled.{written_spelled}
 use Rattle.record_model.proofs.PairsSigned.{length-signed_bytes, signed_width-le}
 use Rattle.record_model.proofs.UnitBytes.{length-zeros, length-filled}
-use Rattle.record_writer.proofs.Measures.{length-spelling}
+use Rattle.volume_format.proofs.record_writer.Measures.{length-spelling}
 use Rattle.volume_format.specs.declared.layout.Layout.{Layout}
 use Rattle.volume_format.specs.Layouts.{IsLayout}
 use Rattle.volume_format.specs.Files.{name_value, resident, mapped, one_run, standard, standard_value, name_attribute}

@@ -1,3 +1,4 @@
+pub use Rattle.volume_format.proofs.record_writer
 pub mod Placing
 pub mod Naming
 pub mod Fitting

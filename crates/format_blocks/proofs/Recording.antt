@@ -17,8 +17,8 @@ use Rattle.record_model.specs.Records.{Record, spelled_bytes, FitsHead, FitsReco
 use Rattle.record_model.proofs.FixedValues.{length-volume_info_over}
 use Rattle.record_model.proofs.UnitBytes.{length-zeros}
 use Rattle.record_model.specs.Constants.{data_type, index_root, index_allocation, bitmap_type, names_index, volume_name, volume_information}
-use Rattle.record_writer.specs.Fitting.{rise_from}
-use Rattle.record_writer.proofs.Rising.{rise_true}
+use Rattle.volume_format.specs.record_writer.Fitting.{rise_from}
+use Rattle.volume_format.proofs.record_writer.Rising.{rise_true}
 use Rattle.index_node.specs.Roots.{root_spelling, HaveSpelling}
 use Rattle.index_node.proofs.RootSpelled.{root_law}
 use Rattle.volume_format.specs.declared.layout.Layout.{Layout}

@@ -1,2 +1,3 @@
+pub use Rattle.volume_format.specs as volume_format
 pub mod Regions
 pub mod Blocks

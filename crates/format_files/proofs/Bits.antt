@@ -18,10 +18,10 @@ use Rattle.record_model.specs.Constants.{bitmap_type}
 use Rattle.state_model.specs.Loads.{data_stream}
 use Rattle.volume_model.specs.Volumes.{file_stream, bytes_or, count_of, cluster_bitmap, record_bitmap, cluster_bits, record_bits}
 use Rattle.volume_model.specs.Nodes.{free_clusters}
-use Rattle.volume_format.specs.declared.layout.Layout.{Layout}
-use Rattle.volume_format.specs.Layouts.{IsLayout, used_clusters, room, cluster_bits_first, cluster_bits_bytes}
-use Rattle.volume_format.specs.Files.{system_data}
-use Rattle.volume_format.specs.Images.{cluster_bit, cluster_bits_byte, cluster_bits as bits_region, record_bits as record_region}
+use Rattle.format_blocks.specs.volume_format.declared.layout.Layout.{Layout}
+use Rattle.format_blocks.specs.volume_format.Layouts.{IsLayout, used_clusters, room, cluster_bits_first, cluster_bits_bytes}
+use Rattle.format_blocks.specs.volume_format.Files.{system_data}
+use Rattle.format_blocks.specs.volume_format.Images.{cluster_bit, cluster_bits_byte, cluster_bits as bits_region, record_bits as record_region}
 use Rattle.format_blocks.specs.Blocks.{HasBlocks}
 use Rattle.format_files.specs.Volumes.{extents_at}
 use Rattle.format_blocks.proofs.Sizing.{length-record_bits, length-cluster_bits}

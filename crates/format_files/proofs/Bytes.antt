@@ -8,7 +8,7 @@ use Rattle.disk_model.specs.declared.block.BlockKind.TheVariants.{Plain}
 use Rattle.disk_model.specs.Content.{Content}
 use Rattle.sector_device.specs.Sectors.{sector_in as sector_of_bytes}
 use Rattle.state_model.specs.Streams.{sector_bytes, sector_in, byte_at, extent_bytes}
-use Rattle.volume_format.specs.Files.{one_run}
+use Rattle.format_blocks.specs.volume_format.Files.{one_run}
 use Rattle.format_blocks.specs.Blocks.{block, HasSectors}
 use Rattle.format_files.specs.Volumes.{extents_at}
 use Rattle.format_files.proofs.Streams.{block_in_run}

@@ -1,3 +1,4 @@
+pub use Rattle.format_blocks.proofs as format_blocks
 pub mod Streams
 pub mod Loading
 pub mod Tabling

@@ -13,9 +13,9 @@ use Rattle.state_model.specs.Trees.{parent_at, leads, first_parent}
 use Rattle.state_model.specs.Rules.{has_partner, is_only_short, keeps_names, at_file, keeps_1, is_directory_with, is_directory_at, keeps_2, implies, keeps_8, first_failing}
 use Rattle.volume_model.specs.Volumes.{Volume, files_by_number, count_of}
 use Rattle.volume_state.specs.Rules.{broken_1, broken_2, broken_8}
-use Rattle.volume_format.specs.declared.layout.Layout.{Layout}
-use Rattle.volume_format.specs.Layouts.{IsLayout}
-use Rattle.volume_format.specs.Files.{sequence, is_directory, name_value, standard, name_attribute, system_attrs, system_data, other_streams, volume_streams, root_streams, extend_streams, system_record, reserved_record, spare_record, record_of, reference as new_reference}
+use Rattle.format_blocks.specs.volume_format.declared.layout.Layout.{Layout}
+use Rattle.format_blocks.specs.volume_format.Layouts.{IsLayout}
+use Rattle.format_blocks.specs.volume_format.Files.{sequence, is_directory, name_value, standard, name_attribute, system_attrs, system_data, other_streams, volume_streams, root_streams, extend_streams, system_record, reserved_record, spare_record, record_of, reference as new_reference}
 use Rattle.format_files.specs.Volumes.{new_file, new_files, new_volume}
 use Rattle.format_files.specs.Rules.{NewVolumeKeepsNames}
 use Rattle.format_files.specs.Volumes.{new_link}

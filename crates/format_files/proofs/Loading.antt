@@ -10,9 +10,9 @@ use Rattle.record_model.specs.Constants.{names_index, index_allocation}
 use Rattle.state_model.specs.Files.{is_base_record, is_directory_record}
 use Rattle.state_model.specs.Streams.{is_attribute_of, attributes_of, stream_of, has_cut_block}
 use Rattle.state_model.specs.Loads.{Free, Used, slot_in, is_used, slot_by, whole_record, has_all_pairs, list_stream, has_cut_index_block}
-use Rattle.volume_format.specs.declared.layout.Layout.{Layout}
-use Rattle.volume_format.specs.Layouts.{IsLayout}
-use Rattle.volume_format.specs.Files.{is_directory, standard, name_attribute, system_attrs, system_data, other_streams, volume_streams, root_streams, extend_streams, system_record, reserved_record, spare_record, record_of}
+use Rattle.format_blocks.specs.volume_format.declared.layout.Layout.{Layout}
+use Rattle.format_blocks.specs.volume_format.Layouts.{IsLayout}
+use Rattle.format_blocks.specs.volume_format.Files.{is_directory, standard, name_attribute, system_attrs, system_data, other_streams, volume_streams, root_streams, extend_streams, system_record, reserved_record, spare_record, record_of}
 use Rattle.format_blocks.specs.Blocks.{whole}
 use Rattle.format_blocks.proofs.Naming.{of_twelve}
 use Rattle.format_files.proofs.Streams.{root_blocks_are}

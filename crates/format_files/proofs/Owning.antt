@@ -17,9 +17,9 @@ use Rattle.state_model.specs.Loads.{is_used}
 use Rattle.volume_model.specs.Owners.{file_runs, volume_runs, covers, uses, keeps_owner, keeps_cluster_bit, keeps_record_bit}
 use Rattle.volume_model.specs.Volumes.{block_bytes, record_block, record_bytes, is_in_use, cluster_bits, record_bits, count_of}
 use Rattle.volume_state.specs.Rules.{broken_5, broken_6, broken_7}
-use Rattle.volume_format.specs.declared.layout.Layout.{Layout}
-use Rattle.volume_format.specs.Layouts.{IsLayout, used_clusters, block_first, cluster_bits_bytes}
-use Rattle.volume_format.specs.Files.{in_clusters, one_run, bad_name, standard, name_attribute, system_attrs, system_data, other_streams, volume_streams, root_streams, extend_streams, system_record, reserved_record, record_of}
+use Rattle.format_blocks.specs.volume_format.declared.layout.Layout.{Layout}
+use Rattle.format_blocks.specs.volume_format.Layouts.{IsLayout, used_clusters, block_first, cluster_bits_bytes}
+use Rattle.format_blocks.specs.volume_format.Files.{in_clusters, one_run, bad_name, standard, name_attribute, system_attrs, system_data, other_streams, volume_streams, root_streams, extend_streams, system_record, reserved_record, record_of}
 use Rattle.format_blocks.specs.Blocks.{HasBlocks}
 use Rattle.format_files.specs.Volumes.{new_file, new_files}
 use Rattle.format_files.specs.Rules.{NewVolumeKeepsBits}

@@ -14,11 +14,11 @@ use Rattle.state_model.specs.declared.stream.Stream.{Stream}
 use Rattle.state_model.specs.declared.stream.Stream.TheVariants.{Held, Placed}
 use Rattle.state_model.specs.Streams.{is_attribute_of, attributes_of, runs_or, attribute_runs, joined, stream_of, block_at}
 use Rattle.state_model.specs.Loads.{span, has_fitting_pairs, has_all_pairs, data_stream}
-use Rattle.volume_format.specs.declared.layout.Layout.{Layout}
-use Rattle.volume_format.specs.declared.naming.Data.{Data}
-use Rattle.volume_format.specs.declared.naming.Data.TheVariants.{Absent, Empty, Clusters}
-use Rattle.volume_format.specs.Layouts.{IsLayout, block_first, cluster_bits_bytes}
-use Rattle.volume_format.specs.Files.{mapped, one_run, stream_sizes, in_clusters, bad_name, standard, name_attribute, system_attrs, system_data, other_streams, volume_streams, root_streams, extend_streams, system_record, reserved_record, spare_record, record_of}
+use Rattle.format_blocks.specs.volume_format.declared.layout.Layout.{Layout}
+use Rattle.format_blocks.specs.volume_format.declared.naming.Data.{Data}
+use Rattle.format_blocks.specs.volume_format.declared.naming.Data.TheVariants.{Absent, Empty, Clusters}
+use Rattle.format_blocks.specs.volume_format.Layouts.{IsLayout, block_first, cluster_bits_bytes}
+use Rattle.format_blocks.specs.volume_format.Files.{mapped, one_run, stream_sizes, in_clusters, bad_name, standard, name_attribute, system_attrs, system_data, other_streams, volume_streams, root_streams, extend_streams, system_record, reserved_record, spare_record, record_of}
 use Rattle.format_blocks.specs.Blocks.{block}
 use Rattle.format_files.specs.Volumes.{extents_at}
 use Rattle.format_blocks.proofs.Naming.{of_twelve}

@@ -16,7 +16,7 @@ use Rattle.record_model.specs.ListEntries.{ReadEntries}
 use Rattle.record_model.specs.Records.{Record, record_at, rec_head_of, has_in_use_flag, record_spelling}
 use Rattle.record_model.proofs.RecordSpelling.{spelling_signed, record_spells}
 use Rattle.record_model.specs.Constants.{attribute_list}
-use Rattle.record_writer.proofs.Again.{read_again}
+use Rattle.format_blocks.proofs.record_writer.Again.{read_again}
 use Rattle.state_model.specs.declared.geometry.MapRefusal.{MapRefusal}
 use Rattle.state_model.specs.declared.geometry.MapRefusal.TheVariants.{MftList, MftLarge, BadRecord}
 use Rattle.state_model.specs.declared.stream.Extents.{Extents}
@@ -24,9 +24,9 @@ use Rattle.state_model.specs.Files.{Table, only_base, file_at, has_type}
 use Rattle.state_model.specs.Streams.{block_at, has_cut_block}
 use Rattle.state_model.specs.Loads.{Free, Used, is_used, slot_by, whole_record, slot_of, boot_block, judged, has_all_pairs, table_extents, extents_or, record_count, most_records, extents_in, table_of, slot_at, table_slot, used_record, records_of, table_in, list_stream, no_entries, list_entries_in, entries_of, holds_all, has_held_list, named_attrs, all_attrs, whole_file, joined_file, cuts_index, breaks_9, breaks_list, breaks_10, broken_rule, or_rule, rule_at, torn_refusal, rule_refusal, first_some, first_of, unless, files_of, files_in}
 use Rattle.volume_model.specs.Volumes.{volume_of}
-use Rattle.volume_format.specs.declared.layout.Layout.{Layout}
-use Rattle.volume_format.specs.Layouts.{IsLayout, table_first}
-use Rattle.volume_format.specs.Files.{standard, name_attribute, system_attrs, system_data, other_streams, system_record, record_of}
+use Rattle.format_blocks.specs.volume_format.declared.layout.Layout.{Layout}
+use Rattle.format_blocks.specs.volume_format.Layouts.{IsLayout, table_first}
+use Rattle.format_blocks.specs.volume_format.Files.{standard, name_attribute, system_attrs, system_data, other_streams, system_record, record_of}
 use Rattle.format_blocks.specs.Blocks.{whole, HasBlocks}
 use Rattle.format_files.specs.Volumes.{new_geometry, extents_at, new_file, new_files, new_volume, NewVolumeIsLoaded}
 use Rattle.format_blocks.proofs.Recording.{record_fits}

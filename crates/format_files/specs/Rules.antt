@@ -2,8 +2,8 @@
 use Rattle.std.specs.Prelude.{◌≡◌, ℕ, ◌<◌, ◌^◌, None}
 use Rattle.disk_model.specs.Content.{Content}
 use Rattle.volume_state.specs.Rules.{broken_1, broken_2, broken_5, broken_6, broken_7, broken_8}
-use Rattle.volume_format.specs.declared.layout.Layout.{Layout}
-use Rattle.volume_format.specs.Layouts.{IsLayout}
+use Rattle.format_blocks.specs.volume_format.declared.layout.Layout.{Layout}
+use Rattle.format_blocks.specs.volume_format.Layouts.{IsLayout}
 use Rattle.format_blocks.specs.Blocks.{HasBlocks}
 use Rattle.format_files.specs.Volumes.{new_volume}
 

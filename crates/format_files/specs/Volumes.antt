@@ -7,9 +7,9 @@ use Rattle.file_tree.specs.declared.link.Link.{Link}
 use Rattle.state_model.specs.declared.geometry.Geometry.{Geometry}
 use Rattle.state_model.specs.declared.stream.Extents.{Extents}
 use Rattle.volume_model.specs.Volumes.{Volume, volume_of}
-use Rattle.volume_format.specs.declared.layout.Layout.{Layout}
-use Rattle.volume_format.specs.Layouts.{IsLayout, table_first}
-use Rattle.volume_format.specs.Files.{one_run, record_of, reference, system_name}
+use Rattle.format_blocks.specs.volume_format.declared.layout.Layout.{Layout}
+use Rattle.format_blocks.specs.volume_format.Layouts.{IsLayout, table_first}
+use Rattle.format_blocks.specs.volume_format.Files.{one_run, record_of, reference, system_name}
 use Rattle.format_blocks.specs.Blocks.{HasBlocks}
 
 -- clusters of eight sectors, and the file table at cluster 4

@@ -30,7 +30,7 @@ use Rattle.log_reading.specs.declared.front.RestartFront.{RestartFront}
 use Rattle.log_reading.specs.LogPages.{sector_in, sector_below, log_sector, log_bytes, page_in}
 use Rattle.log_reading.specs.Fronts.{next_restart, front_in}
 use Rattle.log_recovery.specs.LogStates.{FoundLog, LogState, live_entries_in, whole_entries, has_lap, lap_by, lap_in, log_in, recovery_in}
-use Rattle.format_files.proofs.Loading.{passes, goes_on}
+use Rattle.format_rules.proofs.format_files.Loading.{passes, goes_on}
 
 -- ---- bytes that are all FF
 

@@ -6,17 +6,17 @@ use Rattle.disk_model.specs.Sectors.{sectors}
 use Rattle.disk_model.specs.Content.{Content}
 use Rattle.state_model.specs.declared.stream.Stream.TheVariants.{Placed}
 use Rattle.state_model.specs.Streams.{block_at}
-use Rattle.volume_format.specs.Files.{one_run}
+use Rattle.format_rules.specs.volume_format.Files.{one_run}
 use Rattle.log_page.specs.declared.places.LogPlace.{LogPlace}
 use Rattle.log_page.specs.Places.{page_bytes}
 use Rattle.log_reading.specs.LogPages.{sector_in, log_sector, sector_bytes, log_bytes}
 use Rattle.log_reading.proofs.Bytes.{all_initialised}
 use Rattle.log_recovery.specs.LogStates.{recovery_in}
-use Rattle.image_open.specs.LogPlaces.{first_of, stream_sector, stream_place}
-use Rattle.image_open.proofs.Alike.{in_stream}
-use Rattle.format_blocks.specs.Blocks.{block}
-use Rattle.format_files.specs.Volumes.{extents_at}
-use Rattle.format_files.proofs.Streams.{block_in_run}
+use Rattle.image_read.specs.image_open.LogPlaces.{first_of, stream_sector, stream_place}
+use Rattle.image_read.proofs.image_open.Alike.{in_stream}
+use Rattle.format_rules.specs.format_blocks.Blocks.{block}
+use Rattle.format_rules.specs.format_files.Volumes.{extents_at}
+use Rattle.format_rules.proofs.format_files.Streams.{block_in_run}
 use Rattle.format_laws.proofs.EmptyLog.{filler, empty_state, recovery_here, page_is, sector_is}
 
 -- so many pages from cluster 52 on

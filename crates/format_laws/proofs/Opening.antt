@@ -25,27 +25,27 @@ use Rattle.volume_state.specs.Versions.{info_or_none, file_info, volume_info}
 use Rattle.log_model.specs.Logs.{recovered}
 use Rattle.log_reading.specs.declared.fault.LogRefusal.{LogRefusal}
 use Rattle.log_recovery.specs.LogStates.{LogState, recovery_in}
-use Rattle.image_open.specs.declared.refusal.Refusal.TheVariants.{Short}
-use Rattle.image_open.specs.Errors.{boot_refusal, map_refusal, log_refusal, refused_as}
-use Rattle.image_open.specs.LogPlaces.{place_of_log}
-use Rattle.image_open.specs.Volumes.{Opened, boot_in, sized_on, boot_on, geometry_of, log_record, log_place, recovered_at, recovered_in, opened_by, opened_in}
+use Rattle.image_read.specs.image_open.declared.refusal.Refusal.TheVariants.{Short}
+use Rattle.image_read.specs.image_open.Errors.{boot_refusal, map_refusal, log_refusal, refused_as}
+use Rattle.image_read.specs.image_open.LogPlaces.{place_of_log}
+use Rattle.image_read.specs.image_open.Volumes.{Opened, boot_in, sized_on, boot_on, geometry_of, log_record, log_place, recovered_at, recovered_in, opened_by, opened_in}
 use Rattle.image_read.specs.Errors.{broken_refusal}
 use Rattle.image_read.specs.Checks.{volume_on, judged_version, has_version, tree_on, volume_tree, loaded_in, check_in, check_of}
-use Rattle.volume_format.specs.declared.layout.Layout.{Layout}
-use Rattle.volume_format.specs.Layouts.{IsLayout, layout_of}
-use Rattle.volume_format.specs.Files.{system_data, standard, name_attribute, system_attrs, other_streams, volume_streams, system_record, record_of}
-use Rattle.volume_format.specs.Images.{boot_of, log_bytes, formatted}
-use Rattle.format_blocks.specs.Blocks.{block, HasBlocks}
-use Rattle.format_files.specs.Volumes.{extents_at, new_geometry}
+use Rattle.format_rules.specs.volume_format.declared.layout.Layout.{Layout}
+use Rattle.format_rules.specs.volume_format.Layouts.{IsLayout, layout_of}
+use Rattle.format_rules.specs.volume_format.Files.{system_data, standard, name_attribute, system_attrs, other_streams, volume_streams, system_record, record_of}
+use Rattle.format_rules.specs.volume_format.Images.{boot_of, log_bytes, formatted}
+use Rattle.format_rules.specs.format_blocks.Blocks.{block, HasBlocks}
+use Rattle.format_rules.specs.format_files.Volumes.{extents_at, new_geometry}
 use Rattle.format_rules.specs.Trees.{new_tree}
 use Rattle.format_laws.specs.Images.{NewVolumeStands, NewImageStandsFor}
-use Rattle.format_blocks.proofs.Sizing.{length-log}
-use Rattle.format_blocks.proofs.Standing.{layout_fits, regions_stand}
-use Rattle.format_blocks.proofs.Bodies.{blocks_read}
-use Rattle.format_files.proofs.Streams.{data_is}
-use Rattle.format_files.proofs.Loading.{passes, goes_on}
-use Rattle.format_files.proofs.Tabling.{used, volume_loaded}
-use Rattle.format_files.proofs.Linking.{vol, system_here}
+use Rattle.format_rules.proofs.format_blocks.Sizing.{length-log}
+use Rattle.format_rules.proofs.format_blocks.Standing.{layout_fits, regions_stand}
+use Rattle.format_rules.proofs.format_blocks.Bodies.{blocks_read}
+use Rattle.format_rules.proofs.format_files.Streams.{data_is}
+use Rattle.format_rules.proofs.format_files.Loading.{passes, goes_on}
+use Rattle.format_rules.proofs.format_files.Tabling.{used, volume_loaded}
+use Rattle.format_rules.proofs.format_files.Linking.{vol, system_here}
 use Rattle.format_rules.proofs.Checking.{checked_here, state_here}
 use Rattle.format_laws.proofs.EmptyLog.{filler, filler_part, empty_state, same_content}
 use Rattle.format_laws.proofs.NewLog.{new_place, new_recovery}

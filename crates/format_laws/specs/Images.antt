@@ -1,10 +1,10 @@
 -- The image of a new volume stands for its tree.
 use Rattle.std.specs.Prelude.{◌≡◌, ℕ, List, length, Ok}
-use Rattle.volume_format.specs.Layouts.{layout_of}
-use Rattle.volume_format.specs.Images.{formatted}
+use Rattle.format_rules.specs.volume_format.Layouts.{layout_of}
+use Rattle.format_rules.specs.volume_format.Images.{formatted}
 use Rattle.image_read.specs.Checks.{check_of}
 use Rattle.image_read.specs.States.{StandsFor}
-use Rattle.format_blocks.specs.Regions.{CanFormat}
+use Rattle.format_rules.specs.format_blocks.Regions.{CanFormat}
 use Rattle.format_rules.specs.Trees.{new_tree}
 
 -- a check of a device that was formatted answers the tree of the twelve system files, with all clusters after them free

@@ -37,11 +37,11 @@ use Rattle.volume_format.specs.declared.layout.Layout.{Layout}
 use Rattle.volume_format.specs.Layouts.{IsLayout, block_first}
 use Rattle.volume_format.specs.Files.{system_name, sequence, name_value, name_attribute, root_streams, reference as new_reference}
 use Rattle.volume_format.specs.Indexes.{in_order}
-use Rattle.format_blocks.specs.Blocks.{block, whole}
-use Rattle.format_blocks.proofs.Recording.{root_fits}
-use Rattle.format_files.specs.Volumes.{extents_at, new_link}
-use Rattle.format_files.proofs.Loading.{passes}
-use Rattle.format_files.proofs.Streams.{mapped_stream, block_run}
+use Rattle.format_rules.specs.format_blocks.Blocks.{block, whole}
+use Rattle.format_rules.proofs.format_blocks.Recording.{root_fits}
+use Rattle.format_rules.specs.format_files.Volumes.{extents_at, new_link}
+use Rattle.format_rules.proofs.format_files.Loading.{passes}
+use Rattle.format_rules.proofs.format_files.Streams.{mapped_stream, block_run}
 use Rattle.format_rules.proofs.Ordering.{plain_order, upper_name, names_small, Before, in_order_here}
 use Rattle.format_rules.proofs.Indexing.{both, before_gives, may_precede, key, link_of, one_block}
 use Rattle.format_plans.specs.Files.{title, title_link, title_value, titled, information, first_record, changed_root, title_entry, entries_with, node_with}

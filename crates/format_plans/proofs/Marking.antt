@@ -17,11 +17,11 @@ use Rattle.volume_model.specs.Volumes.{bytes_or, count_of, record_bits}
 use Rattle.volume_format.specs.declared.layout.Layout.{Layout}
 use Rattle.volume_format.specs.Layouts.{IsLayout}
 use Rattle.volume_format.specs.Files.{one_run}
-use Rattle.format_blocks.specs.Blocks.{block, whole, HasBlocks}
-use Rattle.format_files.specs.Volumes.{extents_at}
-use Rattle.format_files.proofs.Streams.{block_in_run}
-use Rattle.format_files.proofs.Linking.{vol, count_is}
-use Rattle.format_files.proofs.Bits.{record_bitmap_here}
+use Rattle.format_rules.specs.format_blocks.Blocks.{block, whole, HasBlocks}
+use Rattle.format_rules.specs.format_files.Volumes.{extents_at}
+use Rattle.format_rules.proofs.format_files.Streams.{block_in_run}
+use Rattle.format_rules.proofs.format_files.Linking.{vol, count_is}
+use Rattle.format_rules.proofs.format_files.Bits.{record_bitmap_here}
 use Rattle.format_plans.specs.Files.{bits_with}
 
 -- ---- bytes

@@ -31,12 +31,12 @@ use Rattle.volume_format.specs.declared.layout.Layout.{Layout}
 use Rattle.volume_format.specs.Layouts.{IsLayout, block_first}
 use Rattle.volume_format.specs.Files.{sequence, system_data, other_streams, system_attrs, resident, in_clusters, name_attribute, root_streams}
 use Rattle.volume_format.specs.Indexes.{in_order, entry_of}
-use Rattle.format_blocks.specs.Blocks.{whole}
-use Rattle.format_blocks.proofs.Naming.{length-name_value, name_lawful, name_short}
-use Rattle.format_blocks.proofs.Fitting.{Fits, fits_resident, fits_named, fits_mapped}
-use Rattle.format_blocks.proofs.Recording.{fits_record, sequence_small, root_fits}
-use Rattle.format_files.proofs.Streams.{mapped_spans, block_run}
-use Rattle.format_files.proofs.Loading.{whole_is, used_slot}
+use Rattle.format_rules.specs.format_blocks.Blocks.{whole}
+use Rattle.format_rules.proofs.format_blocks.Naming.{length-name_value, name_lawful, name_short}
+use Rattle.format_rules.proofs.format_blocks.Fitting.{Fits, fits_resident, fits_named, fits_mapped}
+use Rattle.format_rules.proofs.format_blocks.Recording.{fits_record, sequence_small, root_fits}
+use Rattle.format_rules.proofs.format_files.Streams.{mapped_spans, block_run}
+use Rattle.format_rules.proofs.format_files.Loading.{whole_is, used_slot}
 use Rattle.format_plans.specs.Files.{title, title_fields, title_value, titled, information, stamped, first_record, root_info, changed_root, title_entry, entries_with, node_with}
 
 -- ---- a record that has a spelling

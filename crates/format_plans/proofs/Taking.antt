@@ -31,15 +31,15 @@ use Rattle.volume_format.specs.Layouts.{IsLayout, block_first, layout_of}
 use Rattle.volume_format.specs.Files.{system_record, system_attrs, system_data, other_streams, root_streams, standard, name_attribute, is_directory, sequence}
 use Rattle.volume_format.specs.Indexes.{in_order}
 use Rattle.volume_format.specs.Images.{formatted}
-use Rattle.format_blocks.specs.Blocks.{block, whole, HasBlocks}
-use Rattle.format_blocks.specs.Regions.{CanFormat}
-use Rattle.format_blocks.proofs.Bodies.{blocks_read}
-use Rattle.format_blocks.proofs.Standing.{layout_fits, regions_stand}
-use Rattle.format_files.specs.Volumes.{new_geometry, new_volume, new_link}
-use Rattle.format_files.proofs.Streams.{block_in_run, root_blocks_are}
-use Rattle.format_files.proofs.Linking.{vol, count_is, system_here}
-use Rattle.format_files.proofs.Bits.{record_bitmap_here, record_bit_is}
-use Rattle.format_files.proofs.Tabling.{volume_loaded}
+use Rattle.format_rules.specs.format_blocks.Blocks.{block, whole, HasBlocks}
+use Rattle.format_rules.specs.format_blocks.Regions.{CanFormat}
+use Rattle.format_rules.proofs.format_blocks.Bodies.{blocks_read}
+use Rattle.format_rules.proofs.format_blocks.Standing.{layout_fits, regions_stand}
+use Rattle.format_rules.specs.format_files.Volumes.{new_geometry, new_volume, new_link}
+use Rattle.format_rules.proofs.format_files.Streams.{block_in_run, root_blocks_are}
+use Rattle.format_rules.proofs.format_files.Linking.{vol, count_is, system_here}
+use Rattle.format_rules.proofs.format_files.Bits.{record_bitmap_here, record_bit_is}
+use Rattle.format_rules.proofs.format_files.Tabling.{volume_loaded}
 use Rattle.format_rules.proofs.Ordering.{upper_is}
 use Rattle.format_rules.proofs.Indexing.{root_links}
 use Rattle.format_rules.proofs.Checking.{holds_here}

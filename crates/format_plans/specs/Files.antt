@@ -17,7 +17,7 @@ use Rattle.volume_format.specs.declared.layout.Layout.{Layout}
 use Rattle.volume_format.specs.Layouts.{record_bits_first, table_first, block_first}
 use Rattle.volume_format.specs.Files.{reference, resident, name_attribute, head_of, root_streams, system_attrs}
 use Rattle.volume_format.specs.Indexes.{in_order, entry_of}
-use Rattle.format_blocks.specs.Blocks.{block}
+use Rattle.format_rules.specs.format_blocks.Blocks.{block}
 use Rattle.plan_bodies.specs.Bodies.{NewBody}
 
 -- ---- the file

@@ -7,9 +7,9 @@ use Rattle.volume_format.specs.declared.layout.Layout.{Layout}
 use Rattle.volume_format.specs.Layouts.{IsLayout, layout_of}
 use Rattle.volume_format.specs.Files.{system_record}
 use Rattle.volume_format.specs.Images.{formatted}
-use Rattle.format_blocks.specs.Blocks.{HasBlocks}
-use Rattle.format_blocks.specs.Regions.{CanFormat}
-use Rattle.format_files.specs.Volumes.{new_geometry, new_volume}
+use Rattle.format_rules.specs.format_blocks.Blocks.{HasBlocks}
+use Rattle.format_rules.specs.format_blocks.Regions.{CanFormat}
+use Rattle.format_rules.specs.format_files.Volumes.{new_geometry, new_volume}
 use Rattle.plan_owners.specs.States.{Stands}
 use Rattle.plan_bodies.specs.Bodies.{content_with}
 use Rattle.plan_model.specs.Edits.{edited}

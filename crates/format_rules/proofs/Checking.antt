@@ -15,9 +15,9 @@ use Rattle.volume_model.specs.Nodes.{no_bytes, bare_nodes, all_nodes, spare_numb
 use Rattle.volume_state.specs.Journals.{some_journal}
 use Rattle.volume_state.specs.Rules.{broken_1, broken_2, broken_3, broken_4, broken_5, broken_6, broken_7, broken_8, broken_9, first_broken}
 use Rattle.volume_state.specs.Trees.{Holds, IsState, volume_journal, tree_with, tree_of, without_records, report_of, reported, checked}
-use Rattle.volume_format.specs.declared.layout.Layout.{Layout}
-use Rattle.volume_format.specs.Layouts.{IsLayout}
-use Rattle.format_blocks.specs.Blocks.{HasBlocks}
+use Rattle.format_files.specs.volume_format.declared.layout.Layout.{Layout}
+use Rattle.format_files.specs.volume_format.Layouts.{IsLayout}
+use Rattle.format_files.specs.format_blocks.Blocks.{HasBlocks}
 use Rattle.format_rules.specs.Trees.{new_tree, LoadedVolumeStands}
 use Rattle.format_files.specs.Volumes.{new_geometry}
 use Rattle.format_files.proofs.Tabling.{volume_loaded}

@@ -35,16 +35,16 @@ use Rattle.volume_model.specs.Volumes.{count_of, upper_of}
 use Rattle.volume_model.specs.Indexes.{or_void, index_block, block_count, blocks_of, stream_blocks, index_stream, index_place, root_value, links_read, links_below, index_links, lists_names, keeps_index}
 use Rattle.volume_state.specs.Rules.{broken_3, broken_9}
 use Rattle.volume_state.specs.Journals.{fault_of}
-use Rattle.volume_format.specs.declared.layout.Layout.{Layout}
-use Rattle.volume_format.specs.Layouts.{IsLayout, block_first}
-use Rattle.volume_format.specs.Files.{system_name, sequence, is_directory, name_value, standard, name_attribute, system_attrs, system_data, other_streams, root_streams, extend_streams, system_record, reserved_record, reference as new_reference}
-use Rattle.volume_format.specs.Indexes.{in_order, root_entries, root_node}
-use Rattle.format_blocks.specs.Blocks.{block, whole, HasBlocks}
+use Rattle.format_files.specs.volume_format.declared.layout.Layout.{Layout}
+use Rattle.format_files.specs.volume_format.Layouts.{IsLayout, block_first}
+use Rattle.format_files.specs.volume_format.Files.{system_name, sequence, is_directory, name_value, standard, name_attribute, system_attrs, system_data, other_streams, root_streams, extend_streams, system_record, reserved_record, reference as new_reference}
+use Rattle.format_files.specs.volume_format.Indexes.{in_order, root_entries, root_node}
+use Rattle.format_files.specs.format_blocks.Blocks.{block, whole, HasBlocks}
 use Rattle.format_files.specs.Volumes.{extents_at}
 use Rattle.format_rules.specs.Rules.{NewVolumeKeepsIndexes}
-use Rattle.format_blocks.proofs.Naming.{of_twelve, name_read}
-use Rattle.format_blocks.proofs.Recording.{root_fits, extend_fits}
-use Rattle.format_blocks.proofs.Sizing.{node_fits}
+use Rattle.format_files.proofs.format_blocks.Naming.{of_twelve, name_read}
+use Rattle.format_files.proofs.format_blocks.Recording.{root_fits, extend_fits}
+use Rattle.format_files.proofs.format_blocks.Sizing.{node_fits}
 use Rattle.format_files.proofs.Streams.{block_in_run, root_blocks_are}
 use Rattle.format_files.proofs.Loading.{passes}
 use Rattle.format_files.specs.Volumes.{new_link}

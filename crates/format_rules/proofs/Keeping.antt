@@ -20,15 +20,15 @@ use Rattle.state_model.specs.Loads.{data_stream}
 use Rattle.volume_model.specs.Volumes.{file_in, count_of, size_or, record_bitmap, cluster_bitmap}
 use Rattle.volume_model.specs.Sizes.{keeps_place, fits_volume, keeps_stream, has_hole, keeps_whole, is_torn_at, begun, has_torn, stream_has_torn, keeps_untorn, is_initialised, keeps_table, keeps_bitmaps, keeps_streams, keeps_sizes}
 use Rattle.volume_state.specs.Rules.{broken_4, file_count}
-use Rattle.volume_format.specs.declared.layout.Layout.{Layout}
-use Rattle.volume_format.specs.Layouts.{IsLayout, block_first, cluster_bits_first, cluster_bits_bytes}
-use Rattle.volume_format.specs.Files.{in_clusters, mapped, one_run, bad_name, standard, name_attribute, is_directory, system_attrs, system_data, other_streams, volume_streams, root_streams, extend_streams, system_record, reserved_record, record_of}
-use Rattle.volume_format.specs.Indexes.{root_node}
-use Rattle.format_blocks.specs.Blocks.{block, whole, HasBlocks}
+use Rattle.format_files.specs.volume_format.declared.layout.Layout.{Layout}
+use Rattle.format_files.specs.volume_format.Layouts.{IsLayout, block_first, cluster_bits_first, cluster_bits_bytes}
+use Rattle.format_files.specs.volume_format.Files.{in_clusters, mapped, one_run, bad_name, standard, name_attribute, is_directory, system_attrs, system_data, other_streams, volume_streams, root_streams, extend_streams, system_record, reserved_record, record_of}
+use Rattle.format_files.specs.volume_format.Indexes.{root_node}
+use Rattle.format_files.specs.format_blocks.Blocks.{block, whole, HasBlocks}
 use Rattle.format_files.specs.Volumes.{extents_at}
 use Rattle.format_rules.specs.Rules.{NewVolumeKeepsSizes}
-use Rattle.format_blocks.proofs.Naming.{of_twelve}
-use Rattle.format_blocks.proofs.Fitting.{IsSmallRun}
+use Rattle.format_files.proofs.format_blocks.Naming.{of_twelve}
+use Rattle.format_files.proofs.format_blocks.Fitting.{IsSmallRun}
 use Rattle.format_files.proofs.Streams.{mapped_stream, fixed_run, log_run, bits_run, block_run, bad_run, block_in_run, data_is, record_bitmap_is, root_blocks_are, root_bitmap_is}
 use Rattle.format_files.proofs.Linking.{vol, count_is, none_failing, of_sixteen, of_each}
 use Rattle.format_files.proofs.Bits.{cluster_bitmap_is, record_bitmap_here}

@@ -1,3 +1,5 @@
+pub use Rattle.format_files.proofs as format_files
+pub use Rattle.format_files.proofs.format_blocks
 pub mod Keeping
 pub mod Listing
 pub mod Ordering

@@ -9,8 +9,8 @@ use Rattle.state_model.specs.Files.{links_at}
 use Rattle.state_model.specs.Trees.{all_links}
 use Rattle.volume_model.specs.Volumes.{count_of}
 use Rattle.volume_state.specs.Journals.{extend_file, journal_name, file_or_none, journal_file, journal_of_file, journal_of}
-use Rattle.volume_format.specs.declared.layout.Layout.{Layout}
-use Rattle.volume_format.specs.Layouts.{IsLayout}
+use Rattle.format_files.specs.volume_format.declared.layout.Layout.{Layout}
+use Rattle.format_files.specs.volume_format.Layouts.{IsLayout}
 use Rattle.format_files.specs.Volumes.{new_link}
 use Rattle.format_files.proofs.Linking.{vol, files, count_is, links_here, links_reserved}
 

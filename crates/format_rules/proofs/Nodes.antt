@@ -26,13 +26,13 @@ use Rattle.state_model.specs.Loads.{data_stream}
 use Rattle.volume_model.specs.Sizes.{has_hole}
 use Rattle.volume_model.specs.Volumes.{record_bytes}
 use Rattle.volume_model.specs.Nodes.{data_flags, sparse_if, why_not, kind_in, node_with, node_by, some_node, node_at, nodes_by, spare_sequence, spare_at, spare_numbers}
-use Rattle.volume_format.specs.declared.layout.Layout.{Layout}
-use Rattle.volume_format.specs.Layouts.{IsLayout}
-use Rattle.volume_format.specs.Files.{sequence, is_directory, standard_value, standard, name_attribute, system_attrs, system_data, other_streams, volume_streams, root_streams, extend_streams, system_record, reserved_record, record_of}
-use Rattle.format_blocks.specs.Blocks.{HasBlocks}
+use Rattle.format_files.specs.volume_format.declared.layout.Layout.{Layout}
+use Rattle.format_files.specs.volume_format.Layouts.{IsLayout}
+use Rattle.format_files.specs.volume_format.Files.{sequence, is_directory, standard_value, standard, name_attribute, system_attrs, system_data, other_streams, volume_streams, root_streams, extend_streams, system_record, reserved_record, record_of}
+use Rattle.format_files.specs.format_blocks.Blocks.{HasBlocks}
 use Rattle.format_rules.specs.Trees.{new_node, new_spare}
-use Rattle.format_blocks.proofs.Naming.{of_twelve}
-use Rattle.format_blocks.proofs.Recording.{record_fits}
+use Rattle.format_files.proofs.format_blocks.Naming.{of_twelve}
+use Rattle.format_files.proofs.format_blocks.Recording.{record_fits}
 use Rattle.format_files.proofs.Streams.{stream_of_data, data_is}
 use Rattle.format_files.proofs.Loading.{record_spare}
 use Rattle.format_files.proofs.Linking.{vol, count_is, system_here, of_each, links_are, no_links}

@@ -19,14 +19,14 @@ use Rattle.state_model.specs.Loads.{data_stream}
 use Rattle.upcase_order.specs.Tables.{upcase_of, standard_upper, standard_table}
 use Rattle.upcase_order.proofs.Units.{length-standard_units, get-standard_units, standard_table-is, upcase-read}
 use Rattle.volume_model.specs.Volumes.{file_stream, bytes_or, table_or_standard, upper_of}
-use Rattle.volume_format.specs.declared.layout.Layout.{Layout}
-use Rattle.volume_format.specs.Layouts.{IsLayout}
-use Rattle.volume_format.specs.Files.{system_name, system_data, system_record}
-use Rattle.volume_format.specs.Images.{upper_case_bytes}
-use Rattle.format_blocks.specs.Blocks.{HasBlocks}
+use Rattle.format_files.specs.volume_format.declared.layout.Layout.{Layout}
+use Rattle.format_files.specs.volume_format.Layouts.{IsLayout}
+use Rattle.format_files.specs.volume_format.Files.{system_name, system_data, system_record}
+use Rattle.format_files.specs.volume_format.Images.{upper_case_bytes}
+use Rattle.format_files.specs.format_blocks.Blocks.{HasBlocks}
 use Rattle.format_files.specs.Volumes.{extents_at}
-use Rattle.format_blocks.proofs.Naming.{of_twelve}
-use Rattle.format_blocks.proofs.Sizing.{length-upper_case}
+use Rattle.format_files.proofs.format_blocks.Naming.{of_twelve}
+use Rattle.format_files.proofs.format_blocks.Sizing.{length-upper_case}
 use Rattle.format_files.proofs.Streams.{data_is}
 use Rattle.format_files.proofs.Linking.{vol, system_here}
 use Rattle.format_files.proofs.Bytes.{extent_is}

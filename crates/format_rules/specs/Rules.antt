@@ -2,9 +2,9 @@
 use Rattle.std.specs.Prelude.{◌≡◌, ℕ, ◌<◌, ◌^◌, None}
 use Rattle.disk_model.specs.Content.{Content}
 use Rattle.volume_state.specs.Rules.{broken_3, broken_4, broken_9}
-use Rattle.volume_format.specs.declared.layout.Layout.{Layout}
-use Rattle.volume_format.specs.Layouts.{IsLayout}
-use Rattle.format_blocks.specs.Blocks.{HasBlocks}
+use Rattle.format_files.specs.volume_format.declared.layout.Layout.{Layout}
+use Rattle.format_files.specs.volume_format.Layouts.{IsLayout}
+use Rattle.format_files.specs.format_blocks.Blocks.{HasBlocks}
 use Rattle.format_files.specs.Volumes.{new_volume}
 
 -- each directory's index holds its names in order, and there is no change journal

@@ -7,10 +7,10 @@ use Rattle.file_tree.specs.declared.node.Kind.TheVariants.{Directory, System}
 use Rattle.file_tree.specs.declared.node.Node.{Node}
 use Rattle.file_tree.specs.declared.tree.Tree.{Tree}
 use Rattle.volume_state.specs.Trees.{Holds, checked, IsState}
-use Rattle.volume_format.specs.declared.layout.Layout.{Layout}
-use Rattle.volume_format.specs.Layouts.{IsLayout, room}
-use Rattle.volume_format.specs.Files.{sequence, is_directory}
-use Rattle.format_blocks.specs.Blocks.{HasBlocks}
+use Rattle.format_files.specs.volume_format.declared.layout.Layout.{Layout}
+use Rattle.format_files.specs.volume_format.Layouts.{IsLayout, room}
+use Rattle.format_files.specs.volume_format.Files.{sequence, is_directory}
+use Rattle.format_files.specs.format_blocks.Blocks.{HasBlocks}
 use Rattle.format_files.specs.Volumes.{new_geometry, new_link, new_volume}
 
 -- a system file: the root and `$Extend` are directories; none shows its bytes, and all are hidden and of the system

@@ -19,18 +19,18 @@ use Rattle.log_page.specs.Restarts.{restart_of, is_blank, whole_one}
 use Rattle.log_reading.specs.LogPages.{log_sector, sector_bytes, log_bytes, page_in}
 use Rattle.log_reading.specs.Rings.{IsPageAt, IsRingPlace}
 use Rattle.log_reading.proofs.Bytes.{all_initialised}
-use Rattle.image_open.specs.LogPlaces.{stream_place, place_of_log}
+use Rattle.format_laws.specs.image_open.LogPlaces.{stream_place, place_of_log}
 use Rattle.volume_format.specs.declared.layout.Layout.{Layout}
 use Rattle.volume_format.specs.Layouts.{IsLayout, layout_of, used_clusters}
 use Rattle.volume_format.specs.Files.{system_data, record_of}
 use Rattle.volume_format.specs.Images.{formatted, log_bytes as new_bytes}
-use Rattle.format_blocks.specs.Blocks.{block, HasBlocks}
-use Rattle.format_blocks.specs.Regions.{CanFormat}
-use Rattle.format_blocks.proofs.Sizing.{length-log}
-use Rattle.format_blocks.proofs.Standing.{layout_fits}
-use Rattle.format_blocks.proofs.Bodies.{blocks_read}
-use Rattle.format_files.specs.Volumes.{extents_at, new_geometry}
-use Rattle.format_files.proofs.Streams.{data_is}
+use Rattle.format_laws.specs.format_blocks.Blocks.{block, HasBlocks}
+use Rattle.format_laws.specs.format_blocks.Regions.{CanFormat}
+use Rattle.format_laws.proofs.format_blocks.Sizing.{length-log}
+use Rattle.format_laws.proofs.format_blocks.Standing.{layout_fits}
+use Rattle.format_laws.proofs.format_blocks.Bodies.{blocks_read}
+use Rattle.format_laws.specs.format_files.Volumes.{extents_at, new_geometry}
+use Rattle.format_laws.proofs.format_files.Streams.{data_is}
 use Rattle.format_laws.proofs.EmptyLog.{filler, filler_part, page_is, no_restart, blank, unsaid, lap_left}
 use Rattle.format_laws.proofs.NewLog.{new_place, pages_are, place_sector, initialised_past}
 use Rattle.ring_laws.specs.Numbers.{IsInRing}

@@ -4,12 +4,12 @@ use Rattle.disk_model.specs.Sectors.{sector_of}
 use Rattle.sector_device.specs.Disks.{Disk, IsSettled, IsSized, seen}
 use Rattle.log_page.specs.declared.places.LogPlace.{LogPlace}
 use Rattle.log_reading.specs.Rings.{IsRingPlace}
-use Rattle.image_open.specs.Volumes.{log_place}
+use Rattle.format_laws.specs.image_open.Volumes.{log_place}
 use Rattle.volume_format.specs.Layouts.{layout_of}
 use Rattle.volume_format.specs.Files.{record_of}
 use Rattle.volume_format.specs.Images.{formatted}
-use Rattle.format_blocks.specs.Regions.{CanFormat}
-use Rattle.format_files.specs.Volumes.{new_geometry}
+use Rattle.format_laws.specs.format_blocks.Regions.{CanFormat}
+use Rattle.format_laws.specs.format_files.Volumes.{new_geometry}
 use Rattle.txn_core.specs.Openings.{OpensOn}
 
 -- where the log of a new volume lies on a device of so many sectors, by its file record

@@ -24,15 +24,15 @@ use Rattle.stream_laws.proofs.Placing.{uses-append, once_inside}
 use Rattle.stream_laws.proofs.Rewriting.{volume_parts}
 use Rattle.stream_laws.proofs.Sharing.{stream_of_volume}
 use Rattle.stream_runs.proofs.Merging.{total-append}
-use Rattle.plan_owners.specs.States.{Stands}
-use Rattle.plan_owners.proofs.ByKind.{marked_if_used}
-use Rattle.plan_owners.proofs.Outside.{once}
-use Rattle.plan_growth.specs.Streams.{MayTake}
-use Rattle.plan_growth.proofs.Choosing.{may_be_taken}
-use Rattle.resized_streams.proofs.Chosen.{total_chosen}
+use Rattle.written_made.specs.plan_owners.States.{Stands}
+use Rattle.written_made.proofs.plan_owners.ByKind.{marked_if_used}
+use Rattle.written_made.proofs.plan_owners.Outside.{once}
+use Rattle.written_made.specs.plan_growth.Streams.{MayTake}
+use Rattle.written_made.proofs.plan_growth.Choosing.{may_be_taken}
+use Rattle.written_made.proofs.resized_streams.Chosen.{total_chosen}
 use Rattle.space_model.specs.Choosing.{chosen}
-use Rattle.state_streams.proofs.Counting.{few_clusters}
-use Rattle.data_plan.specs.Changes.{data_in}
+use Rattle.written_made.proofs.state_streams.Counting.{few_clusters}
+use Rattle.written_made.specs.data_plan.Changes.{data_in}
 
 clash : (b : Bool) → b ≡ false → b ≡ true → ⊥
 clash b first second = cc

@@ -24,7 +24,7 @@ use Rattle.state_model.specs.declared.stream.Stream.TheVariants.{Placed}
 use Rattle.state_model.specs.Loads.{has_all_pairs, whole_record}
 use Rattle.state_model.specs.Streams.{is_attribute_of, attributes_of, runs_or, form_runs, attribute_runs, stream_of}
 use Rattle.stream_laws.proofs.Sharing.{attributes_sum}
-use Rattle.plan_growth.proofs.Placed.{runs_of_attributes}
+use Rattle.written_made.proofs.plan_growth.Placed.{runs_of_attributes}
 
 -- ---- the bytes that are cut into attributes
 

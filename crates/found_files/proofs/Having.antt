@@ -29,27 +29,27 @@ use Rattle.stream_laws.proofs.Rewriting.{volume_parts, count_is}
 use Rattle.stream_laws.proofs.Sharing.{attributes_sum}
 use Rattle.stream_laws.proofs.Tabling.{read_in_use, inside_list}
 use Rattle.tree_model.specs.declared.script.Op.{Op}
-use Rattle.plan_owners.specs.States.{Stands}
-use Rattle.plan_owners.proofs.Standing.{some_file, streams_at}
-use Rattle.plan_model.proofs.Drafting.{per_is}
-use Rattle.plan_model.proofs.OneRecord.{own_record}
-use Rattle.plan_growth.proofs.Resizing.{slot_open}
-use Rattle.state_streams.specs.Streams.{IsPlacedIn, StreamsOfStates}
-use Rattle.state_files.specs.Files.{FilesHaveData}
-use Rattle.data_plan.specs.Changes.{data_in, ShowsData, HasData, GrowsLittle, growth_of}
-use Rattle.data_plan.proofs.Cases.{placed_comes}
-use Rattle.step_model.specs.Placing.{more_of}
-use Rattle.step_model.specs.Streams.{Comes}
+use Rattle.written_made.specs.plan_owners.States.{Stands}
+use Rattle.written_made.proofs.plan_owners.Standing.{some_file, streams_at}
+use Rattle.written_made.proofs.plan_model.Drafting.{per_is}
+use Rattle.written_made.proofs.plan_model.OneRecord.{own_record}
+use Rattle.written_made.proofs.plan_growth.Resizing.{slot_open}
+use Rattle.written_made.specs.state_streams.Streams.{IsPlacedIn, StreamsOfStates}
+use Rattle.written_made.specs.state_files.Files.{FilesHaveData}
+use Rattle.written_made.specs.data_plan.Changes.{data_in, ShowsData, HasData, GrowsLittle, growth_of}
+use Rattle.written_made.proofs.data_plan.Cases.{placed_comes}
+use Rattle.written_made.specs.step_model.Placing.{more_of}
+use Rattle.written_made.specs.step_model.Streams.{Comes}
 use Rattle.tree_model.specs.Effects.{clusters_after}
-use Rattle.made_data.specs.Made.{with_empty_data, made_record, has_data}
-use Rattle.made_data.specs.Laws.{MadeIsCounted}
-use Rattle.made_data.proofs.Having.{made_fits}
-use Rattle.made_data.proofs.Standing.{written_fits}
-use Rattle.file_puts.specs.declared.streams.VolumeStreams.{VolumeStreams}
-use Rattle.file_puts.specs.Written.{AreStreamsOf}
-use Rattle.file_writes.specs.Writing.{MayWrite}
-use Rattle.written_values.proofs.Owning.{IsOwned, is_owned}
-use Rattle.change_steps.specs.Ready.{FilesAreReady}
+use Rattle.written_made.specs.made_data.Made.{with_empty_data, made_record, has_data}
+use Rattle.written_made.specs.made_data.Laws.{MadeIsCounted}
+use Rattle.written_made.proofs.made_data.Having.{made_fits}
+use Rattle.written_made.proofs.made_data.Standing.{written_fits}
+use Rattle.written_made.specs.file_puts.declared.streams.VolumeStreams.{VolumeStreams}
+use Rattle.written_made.specs.file_puts.Written.{AreStreamsOf}
+use Rattle.written_made.specs.file_writes.Writing.{MayWrite}
+use Rattle.written_made.proofs.written_values.Owning.{IsOwned, is_owned}
+use Rattle.written_made.specs.change_steps.Ready.{FilesAreReady}
 use Rattle.found_files.specs.Found.{HasFewParts, IsFoundFile, FoundMayWrite}
 use Rattle.found_files.proofs.Beside.{room_beside}
 use Rattle.found_files.proofs.Few.{whole_made_of, few_attrs, few_runs}

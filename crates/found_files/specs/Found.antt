@@ -4,7 +4,7 @@ use Rattle.disk_model.specs.Content.{Content}
 use Rattle.record_model.specs.Constants.{attribute_list}
 use Rattle.record_model.specs.Pairs.{cluster_limit}
 use Rattle.record_model.specs.Records.{Record}
-use Rattle.record_streams.specs.Fitting.{FitsButRoom}
+use Rattle.written_made.specs.record_streams.Fitting.{FitsButRoom}
 use Rattle.file_tree.specs.declared.node.Node.{Node}
 use Rattle.state_model.specs.declared.geometry.Geometry.{Geometry}
 use Rattle.state_model.specs.declared.stream.Extents.{Extents}
@@ -14,14 +14,14 @@ use Rattle.volume_model.specs.Volumes.{Volume, file_in}
 use Rattle.tree_model.specs.declared.script.Op.{Op}
 use Rattle.tree_model.specs.Steps.{IsWithinBounds}
 use Rattle.change_lookup.specs.declared.found.Found.TheVariants.{File}
-use Rattle.plan_owners.specs.States.{Stands}
-use Rattle.plan_changes.specs.Files.{IsChangeable}
-use Rattle.data_plan.specs.Changes.{data_in}
-use Rattle.made_data.specs.Made.{made_record, has_data}
-use Rattle.file_puts.specs.declared.streams.VolumeStreams.{VolumeStreams}
-use Rattle.file_puts.specs.Written.{AreStreamsOf}
-use Rattle.file_writes.specs.Writing.{MayWrite}
-use Rattle.change_steps.specs.Found.{HasChange, Finds}
+use Rattle.written_made.specs.plan_owners.States.{Stands}
+use Rattle.written_made.specs.plan_changes.Files.{IsChangeable}
+use Rattle.written_made.specs.data_plan.Changes.{data_in}
+use Rattle.written_made.specs.made_data.Made.{made_record, has_data}
+use Rattle.written_made.specs.file_puts.declared.streams.VolumeStreams.{VolumeStreams}
+use Rattle.written_made.specs.file_puts.Written.{AreStreamsOf}
+use Rattle.written_made.specs.file_writes.Writing.{MayWrite}
+use Rattle.written_made.specs.change_steps.Found.{HasChange, Finds}
 
 -- the record has few attributes, and its unnamed data few runs
 pub record HasFewParts (r : Record) : Type 0 where

@@ -7,8 +7,8 @@ use Rattle.volume_model.specs.Volumes.{size_or}
 use Rattle.volume_model.specs.Nodes.{valid_or, clusters_or}
 use Rattle.tree_model.specs.declared.script.Op.{Op}
 use Rattle.tree_model.specs.Steps.{IsWithinBounds}
-use Rattle.data_plan.specs.Changes.{GrowsLittle}
-use Rattle.file_puts.specs.declared.streams.VolumeStreams.{VolumeStreams}
+use Rattle.written_made.specs.data_plan.Changes.{GrowsLittle}
+use Rattle.written_made.specs.file_puts.declared.streams.VolumeStreams.{VolumeStreams}
 
 -- the node has the sizes and the clusters of this stream, if there is one
 pub record ShowsStream (node : Node) (s : Option Stream) : Type 0 where

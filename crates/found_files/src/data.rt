@@ -2,24 +2,23 @@
 ghost use Rattle.std.specs.Prelude.{◌≡◌, ◌↔◌, ℕ, true, [], IfOk};
 ghost use Rattle.std.specs.List.{list_all};
 ghost use Rattle.record_model.specs.Constants.{data_type};
-ghost use Rattle.record_streams.specs.Fitting.{FitsButRoom};
+ghost use Rattle.written_made.specs.record_streams.Fitting.{FitsButRoom};
 ghost use Rattle.state_model.specs.Loads.{form_fits, has_fitting_pairs, has_all_pairs};
 ghost use Rattle.state_model.specs.Streams.{attributes_of};
-ghost use Rattle.stream_map.specs.Attributes.{behind};
+ghost use Rattle.volume_map.specs.stream_map.Attributes.{behind};
 ghost use Rattle.volume_model.specs.Volumes.{size_or};
 ghost use Rattle.volume_model.specs.Nodes.{valid_or, clusters_or};
-ghost use Rattle.data_plan.specs.Changes.{BeginsAtZero, StandsBelow, HasData, ShowsData};
+ghost use Rattle.written_made.specs.data_plan.Changes.{BeginsAtZero, StandsBelow, HasData, ShowsData};
 ghost use Rattle.found_files.specs.Parts.{ShowsStream};
 
 use crate::placed::{lies_below, total_clusters};
-use file_record::FileRec;
 use file_tree::Node;
 use host_base::Memory;
 use record_model::{Attr, DATA, OwnForm};
 use state_model::Stream;
 use std::alloc::Global;
-use stream_map::{attributes_of, first_vcn, stream_of};
-use volume_map::pairs_fit;
+use volume_map::{attributes_of, first_vcn, pairs_fit, stream_of};
+use written_made::FileRec;
 
 // Whether the mapping pairs of an attribute are read, and have its clusters.
 fn form_fits(alloc: Global, form: &OwnForm) -> Result<bool, Memory>

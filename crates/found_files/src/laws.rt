@@ -1,10 +1,7 @@
 //! The laws of these definitions.
 ghost use Rattle.found_files.specs.Found.{FoundMayWrite};
 
-use change_steps::files_are_ready;
-use made_data::made_is_counted;
-use state_files::files_have_data;
-use state_streams::streams_of_states;
+use written_made::{files_are_ready, files_have_data, made_is_counted, streams_of_states};
 
 /// Law: a file that an operation was found to write or cut, in a state without a change journal, is
 /// what the call that does it asks for, as it stands or with unnamed data made; so

@@ -10,9 +10,12 @@ mod numbers;
 mod placed;
 mod writing;
 
-pub use file_puts::VolumeStreams;
-pub use file_record::FileRec;
 pub use file_tree::Node;
 pub use laws::found_may_write;
 pub use tree_model::Op;
+pub use volume_map::VolumeMap;
 pub use writing::may_write;
+pub use written_made::{
+    FileRec, VolumeStreams, WriteFault, change_any_file, changes_are_steps, data_extents, file,
+    found_is_there, has_data, make_data, reads_the_table,
+};

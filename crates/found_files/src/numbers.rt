@@ -2,7 +2,7 @@
 ghost use Rattle.std.specs.Prelude.{◌≡◌, ◌↔◌, ◌<◌, ◌≤◌, ◌^◌, true};
 ghost use Rattle.record_model.specs.Pairs.{cluster_limit};
 ghost use Rattle.tree_model.specs.Steps.{IsWithinBounds};
-ghost use Rattle.data_plan.specs.Changes.{GrowsLittle};
+ghost use Rattle.written_made.specs.data_plan.Changes.{GrowsLittle};
 
 use file_tree::Node;
 use tree_model::{Op, clusters_after};

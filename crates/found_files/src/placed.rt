@@ -4,7 +4,7 @@ ghost use Rattle.record_model.specs.Pairs.{HasSpelling};
 ghost use Rattle.state_model.specs.Loads.{total_clusters};
 ghost use Rattle.stream_runs.specs.Runs.{last_cluster};
 ghost use Rattle.tree_model.specs.Needs.{clusters_for};
-ghost use Rattle.data_plan.specs.Changes.{LiesBelow};
+ghost use Rattle.written_made.specs.data_plan.Changes.{LiesBelow};
 
 use planned_streams::have_spelling;
 use record_model::Runs;

@@ -1,19 +1,18 @@
 //! Whether a file may be written or cut.
 ghost use Rattle.std.specs.Prelude.{◌≡◌, ◌↔◌, true, IfOk};
-ghost use Rattle.record_streams.specs.Fitting.{FitsButRoom};
-ghost use Rattle.file_writes.specs.Writing.{MayWrite};
+ghost use Rattle.written_made.specs.record_streams.Fitting.{FitsButRoom};
+ghost use Rattle.written_made.specs.file_writes.Writing.{MayWrite};
 ghost use Rattle.found_files.specs.Parts.{HasNumbers};
 
 use crate::data::has_shown_data;
 use crate::numbers::{CLUSTER_LIMIT, grows_little, is_within_bounds};
-use file_puts::VolumeStreams;
-use file_record::FileRec;
 use file_tree::Node;
 use host_base::Memory;
 use record_model::STANDARD_INFORMATION;
 use std::alloc::Global;
 use tree_model::Op;
 use volume_map::has_type;
+use written_made::{FileRec, VolumeStreams};
 
 // Numbers of file records are below this.
 const NUMBER_LIMIT: u64 = 0x1_0000_0000_0000;

@@ -10,8 +10,8 @@ use Rattle.sector_device.specs.Disks.{Disk, Past, MayHold, MayLeave, WasLeft, Ar
 use Rattle.sector_device.specs.KeptLaws.{none_in}
 use Rattle.sector_device.specs.Moments.{Changes, LeftSince, Remembers, past_after}
 use Rattle.sector_device.proofs.Images.{holds_seen, present_is_now}
-use Rattle.store_model.specs.Geometry.{SectorBytes, CanLeave}
-use Rattle.store_model.proofs.Known.{own_content}
+use Rattle.txn_core.specs.store_model.Geometry.{SectorBytes, CanLeave}
+use Rattle.txn_core.proofs.store_model.Known.{own_content}
 use Rattle.found_stays.specs.Found.{is_in, HasFirst, StaysFirst, BearsFirst, StaysOver}
 
 -- ---- the sectors of a block

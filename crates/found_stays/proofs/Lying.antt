@@ -9,10 +9,10 @@ use Rattle.disk_model.specs.declared.block.BlockKind.TheVariants.{Plain, FileRec
 use Rattle.disk_model.specs.Sectors.{sectors}
 use Rattle.sector_device.specs.Disks.{Disk, IsSettled, is_within, newest, seen}
 use Rattle.log_model.specs.Logs.{may_begin}
-use Rattle.log_page.specs.declared.places.LogPlace.{LogPlace}
-use Rattle.log_reading.specs.LogPages.{log_sector}
-use Rattle.log_reading.specs.Rings.{IsPageAt, IsRingPlace}
-use Rattle.log_area.specs.Areas.{page_first}
+use Rattle.txn_core.specs.log_page.declared.places.LogPlace.{LogPlace}
+use Rattle.txn_core.specs.log_reading.LogPages.{log_sector}
+use Rattle.txn_core.specs.log_reading.Rings.{IsPageAt, IsRingPlace}
+use Rattle.txn_core.specs.log_area.Areas.{page_first}
 use Rattle.found_stays.specs.Found.{is_in, HasFirst, AreOffLog}
 use Rattle.found_stays.specs.Laws.{LiesBeside}
 

@@ -17,29 +17,29 @@ use Rattle.fixup_record.specs.Protecting.{protected_bytes}
 use Rattle.fixup_record.proofs.Protected.{length-protected}
 use Rattle.sector_device.specs.Disks.{Disk, SeesDisk, is_within}
 use Rattle.sector_device.specs.Moments.{Changes}
-use Rattle.log_page.specs.declared.places.LogPlace.{LogPlace}
-use Rattle.log_page.specs.PageSpellings.{page_front}
-use Rattle.log_page.specs.Restarts.{restart_spelling}
-use Rattle.log_page.proofs.Spelled.{length-restart_spelling}
-use Rattle.log_area.specs.Areas.{RingPageOf, page_sector as area_sector, page_first, restart_sector, held_page, made_page, sent_word}
-use Rattle.store_model.specs.Geometry.{SectorBytes}
-use Rattle.store_model.specs.Stores.{Store}
-use Rattle.store_model.specs.Volumes.{is_known}
-use Rattle.store_model.proofs.Volumes.{length-first_bytes}
-use Rattle.store_claims.specs.Windows.{StoreWindow}
-use Rattle.ring_laws.specs.Numbers.{LogSession, place_of_page}
-use Rattle.ring_laws.specs.PageBytes.{page_sector}
-use Rattle.ring_laws.proofs.Numbering.{in_ring}
-use Rattle.ring_laws.proofs.RingFacts.{has_ring}
-use Rattle.ring_laws.proofs.SeenDisks.{not_own}
-use Rattle.area_laws.proofs.Calling.{held_here}
+use Rattle.txn_core.specs.log_page.declared.places.LogPlace.{LogPlace}
+use Rattle.txn_core.specs.log_page.PageSpellings.{page_front}
+use Rattle.txn_core.specs.log_page.Restarts.{restart_spelling}
+use Rattle.txn_core.proofs.log_page.Spelled.{length-restart_spelling}
+use Rattle.txn_core.specs.log_area.Areas.{RingPageOf, page_sector as area_sector, page_first, restart_sector, held_page, made_page, sent_word}
+use Rattle.txn_core.specs.store_model.Geometry.{SectorBytes}
+use Rattle.txn_core.specs.store_model.Stores.{Store}
+use Rattle.txn_core.specs.store_model.Volumes.{is_known}
+use Rattle.txn_core.proofs.store_model.Volumes.{length-first_bytes}
+use Rattle.txn_core.specs.store_claims.Windows.{StoreWindow}
+use Rattle.txn_core.specs.ring_laws.Numbers.{LogSession, place_of_page}
+use Rattle.txn_core.specs.ring_laws.PageBytes.{page_sector}
+use Rattle.txn_core.proofs.ring_laws.Numbering.{in_ring}
+use Rattle.txn_core.proofs.ring_laws.RingFacts.{has_ring}
+use Rattle.txn_core.proofs.ring_laws.SeenDisks.{not_own}
+use Rattle.txn_core.proofs.area_laws.Calling.{held_here}
 use Rattle.flush_policy.specs.declared.facts.StoreStep.{StoreStep}
 use Rattle.flush_policy.specs.declared.facts.StoreStep.TheVariants.{SealPage, WritePage, SyncDevice, WriteOut, BeginCheckpoint, WriteRestart}
-use Rattle.device_blocks.specs.declared.word.CheckWord.{CheckWord}
-use Rattle.txn_model.specs.Values.{StoreFacts, is_own}
-use Rattle.txn_laws.specs.Standing.{HasBytes, StandsBehindAs, StandsBehind, session_of}
-use Rattle.txn_laws.specs.Windows.{HasMachineAs, HasWindowAs, HasMachine, HasWindow}
-use Rattle.txn_state.specs.States.{IsStore}
+use Rattle.txn_core.specs.device_blocks.declared.word.CheckWord.{CheckWord}
+use Rattle.txn_core.specs.txn_model.Values.{StoreFacts, is_own}
+use Rattle.txn_core.specs.txn_laws.Standing.{HasBytes, StandsBehindAs, StandsBehind, session_of}
+use Rattle.txn_core.specs.txn_laws.Windows.{HasMachineAs, HasWindowAs, HasMachine, HasWindow}
+use Rattle.txn_core.specs.txn_state.States.{IsStore}
 use Rattle.txn_core.specs.Calls.{is_spelled}
 use Rattle.txn_core.specs.Seen.{word_of}
 use Rattle.txn_core.specs.Steps.{MayTurn, TurnsDevice}

@@ -10,13 +10,13 @@ use Rattle.sector_device.specs.Moments.{Changes, Writes, Syncs}
 use Rattle.sector_device.specs.Sectors.{sectors_of}
 use Rattle.sector_device.specs.WholeSectors.{length-sectors_of}
 use Rattle.sector_device.proofs.Images.{known_after_write, known_after_sync}
-use Rattle.log_area.specs.Calls.{Sends, IsSent, SentOrAsked, IsSentOrNot}
-use Rattle.store_model.specs.Geometry.{SectorBytes}
-use Rattle.txn_laws.proofs.Telling.{known_before_write, known_before_sync}
-use Rattle.txn_laws.proofs.WriteOuts.{spelled_length}
-use Rattle.device_blocks.specs.declared.word.CheckWord.{CheckWord}
-use Rattle.device_blocks.specs.declared.word.CheckWord.TheVariants.{Unread, Missing, Stands, Sent}
-use Rattle.device_blocks.specs.Calls.{PutOrAsked, IsPutOrNot, IsPutAgain}
+use Rattle.txn_core.specs.log_area.Calls.{Sends, IsSent, SentOrAsked, IsSentOrNot}
+use Rattle.txn_core.specs.store_model.Geometry.{SectorBytes}
+use Rattle.txn_core.proofs.txn_laws.Telling.{known_before_write, known_before_sync}
+use Rattle.txn_core.proofs.txn_laws.WriteOuts.{spelled_length}
+use Rattle.txn_core.specs.device_blocks.declared.word.CheckWord.{CheckWord}
+use Rattle.txn_core.specs.device_blocks.declared.word.CheckWord.TheVariants.{Unread, Missing, Stands, Sent}
+use Rattle.txn_core.specs.device_blocks.Calls.{PutOrAsked, IsPutOrNot, IsPutAgain}
 use Rattle.txn_core.specs.Calls.{WritesOut}
 use Rattle.found_stays.specs.Found.{is_in, HasFirst, StaysOver}
 use Rattle.found_stays.proofs.Bearing.{call_stays, none_stays}

@@ -6,9 +6,9 @@ use Rattle.disk_model.specs.Sectors.{sectors, sector_of, same_block}
 use Rattle.disk_model.specs.Content.{content_of}
 use Rattle.sector_device.specs.Disks.{Disk, is_within}
 use Rattle.sector_device.specs.Moments.{Changes, LeftSince}
-use Rattle.log_page.specs.declared.places.LogPlace.{LogPlace}
-use Rattle.log_area.specs.Areas.{page_first}
-use Rattle.store_model.specs.Geometry.{SectorBytes}
+use Rattle.txn_core.specs.log_page.declared.places.LogPlace.{LogPlace}
+use Rattle.txn_core.specs.log_area.Areas.{page_first}
+use Rattle.txn_core.specs.store_model.Geometry.{SectorBytes}
 
 -- the sector is one of these blocks'
 abbrev pub is_in : List Block → ℕ → Bool

@@ -8,17 +8,17 @@ use Rattle.disk_model.specs.Sectors.{sector_of, same_block}
 use Rattle.sector_device.specs.Disks.{Disk, MayLeave, AreOver, IsSettled, SeesDisk, seen}
 use Rattle.sector_device.specs.Moments.{Changes, Syncs, LeftSince}
 use Rattle.log_model.specs.Logs.{is_in_grid}
-use Rattle.log_page.specs.declared.places.LogPlace.{LogPlace}
-use Rattle.log_reading.specs.Rings.{IsRingPlace}
-use Rattle.log_area.specs.Areas.{page_first}
-use Rattle.store_model.specs.Geometry.{SectorBytes}
-use Rattle.store_model.specs.Stores.{Store}
-use Rattle.store_claims.specs.Windows.{StoreWindow}
+use Rattle.txn_core.specs.log_page.declared.places.LogPlace.{LogPlace}
+use Rattle.txn_core.specs.log_reading.Rings.{IsRingPlace}
+use Rattle.txn_core.specs.log_area.Areas.{page_first}
+use Rattle.txn_core.specs.store_model.Geometry.{SectorBytes}
+use Rattle.txn_core.specs.store_model.Stores.{Store}
+use Rattle.txn_core.specs.store_claims.Windows.{StoreWindow}
 use Rattle.flush_policy.specs.declared.facts.StoreStep.{StoreStep}
-use Rattle.txn_model.specs.Values.{StoreFacts}
-use Rattle.txn_laws.specs.Standing.{StandsBehind}
-use Rattle.txn_laws.specs.Windows.{HasMachineAs, HasMachine, HasWindow}
-use Rattle.txn_state.specs.States.{facts_of, IsStore}
+use Rattle.txn_core.specs.txn_model.Values.{StoreFacts}
+use Rattle.txn_core.specs.txn_laws.Standing.{StandsBehind}
+use Rattle.txn_core.specs.txn_laws.Windows.{HasMachineAs, HasMachine, HasWindow}
+use Rattle.txn_core.specs.txn_state.States.{facts_of, IsStore}
 use Rattle.txn_core.specs.Seen.{Seen}
 use Rattle.txn_core.specs.Steps.{MayTurn, TurnsDevice}
 use Rattle.txn_core.specs.Turns.{SendsRestartPage}

@@ -7,3 +7,4 @@
 mod laws;
 
 pub use laws::{bodies_stay, calls_join, images_bear, starts_stay, steps_stay};
+pub use txn_core::{Closing, Store};

@@ -1,15 +1,14 @@
 //! One growth of a volume's file table, as a plan of changes.
 ghost use Rattle.std.specs.Prelude.{◌≡◌, ◌≤◌, All, IfOk};
 ghost use Rattle.block_view.specs.Changes.{Fits};
-ghost use Rattle.draft_bitmaps.specs.Bitmaps.{bit_count, IsBitmap};
-ghost use Rattle.draft_growth.specs.Growing.{IsTable};
+ghost use Rattle.planned_streams.specs.draft_bitmaps.Bitmaps.{bit_count, IsBitmap};
+ghost use Rattle.planned_streams.specs.draft_growth.Growing.{IsTable};
 
 use crate::volume::{CLUSTERS, geometry};
 use bit_set::BitSet;
 use block_view::{Body, Change, View};
-use draft_growth::{Bitmap, Draft, Extents, Table, grow_table};
 use draft_records::{data_extents, file};
-use planned_streams::{bitmap_of, has_bits, table_of};
+use planned_streams::{Bitmap, Draft, Extents, Table, bitmap_of, grow_table, has_bits, table_of};
 use record_model::DATA;
 use std::alloc::Global;
 use std::test::Fail;

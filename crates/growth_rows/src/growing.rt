@@ -1,14 +1,15 @@
 //! One growth of a file table, as record 0 has it in the draft.
 ghost use Rattle.std.specs.Prelude.{◌≤◌, IfOk, IfSome};
-ghost use Rattle.draft_bitmaps.specs.Bitmaps.{bit_count, IsBitmap};
-ghost use Rattle.draft_growth.specs.Growing.{IsTable};
+ghost use Rattle.planned_streams.specs.draft_bitmaps.Bitmaps.{bit_count, IsBitmap};
+ghost use Rattle.planned_streams.specs.draft_growth.Growing.{IsTable};
 
 use bit_set::BitSet;
 use block_view::View;
-use draft_growth::{Bitmap, Draft, Extents, GrowthFault, Table, grow_table};
 use draft_records::{DraftFault, file};
 use host_base::Memory;
-use planned_streams::{bitmap_of, has_bits, table_of};
+use planned_streams::{
+    Bitmap, Draft, Extents, GrowthFault, Table, bitmap_of, grow_table, has_bits, table_of,
+};
 use record_model::DATA;
 use std::alloc::Global;
 use volume_images::per_cluster;

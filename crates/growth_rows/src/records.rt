@@ -4,10 +4,10 @@ ghost use Rattle.std.specs.Prelude.{◌≡◌, IfOk, length};
 
 use bit_set::BitSet;
 use block_view::{Block, BlockKind, Held, MemoryView};
-use draft_growth::Extents;
 use draft_records::data_extents;
 use file_record::FileRec;
 use host_base::{Bytes, FileRef};
+use planned_streams::Extents;
 use record_model::{Attr, BITMAP_TYPE, DATA, Head, OwnForm, RecHead, Sizes};
 use record_writer::WrittenRecord;
 use std::alloc::Global;

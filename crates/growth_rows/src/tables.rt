@@ -3,7 +3,7 @@
 use crate::growing::{clusters_in, grow, table_in};
 use crate::records::{Standing, Volume, bits_of, lies_of, view_of};
 use block_view::{Body, View};
-use draft_growth::{Draft, Extents, GrowthFault, Stream};
+use planned_streams::{Draft, Extents, GrowthFault, Stream};
 use record_model::Run;
 use std::alloc::Global;
 use std::test::Fail;

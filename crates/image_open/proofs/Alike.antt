@@ -9,22 +9,22 @@ use Rattle.host_base.proofs.Known.{both, one}
 use Rattle.disk_model.specs.declared.block.Block.{Block}
 use Rattle.disk_model.specs.Sectors.{raw_from, overlap}
 use Rattle.disk_model.specs.Content.{Content}
-use Rattle.record_model.specs.declared.runs.Run.{Run}
-use Rattle.record_model.specs.Records.{Record}
+use Rattle.state_model.specs.record_model.declared.runs.Run.{Run}
+use Rattle.state_model.specs.record_model.Records.{Record}
 use Rattle.state_model.specs.declared.geometry.Geometry.{Geometry}
 use Rattle.log_model.specs.declared.entry.Entry.{Entry}
 use Rattle.log_model.specs.Logs.{recovered}
-use Rattle.log_page.specs.declared.restart.Restart.{Restart}
-use Rattle.log_page.specs.declared.places.Extent.{Extent}
-use Rattle.log_page.specs.declared.places.LogPlace.{LogPlace}
-use Rattle.log_page.specs.Places.{page_bytes}
-use Rattle.log_page.specs.Restarts.{is_clean}
-use Rattle.log_page.specs.LiveLogs.{live_log, greatest_lsn}
-use Rattle.log_reading.specs.declared.fault.LogRefusal.{LogRefusal}
-use Rattle.log_reading.specs.declared.fault.LogRefusal.TheVariants.{ForeignLog}
-use Rattle.log_reading.specs.LogPages.{sector_in, sector_below, log_sector, sector_bytes, log_bytes, page_in}
-use Rattle.log_reading.specs.declared.front.RestartFront.{RestartFront}
-use Rattle.log_reading.specs.Fronts.{front_in}
+use Rattle.log_recovery.specs.log_page.declared.restart.Restart.{Restart}
+use Rattle.log_recovery.specs.log_page.declared.places.Extent.{Extent}
+use Rattle.log_recovery.specs.log_page.declared.places.LogPlace.{LogPlace}
+use Rattle.log_recovery.specs.log_page.Places.{page_bytes}
+use Rattle.log_recovery.specs.log_page.Restarts.{is_clean}
+use Rattle.log_recovery.specs.log_page.LiveLogs.{live_log, greatest_lsn}
+use Rattle.log_recovery.specs.log_reading.declared.fault.LogRefusal.{LogRefusal}
+use Rattle.log_recovery.specs.log_reading.declared.fault.LogRefusal.TheVariants.{ForeignLog}
+use Rattle.log_recovery.specs.log_reading.LogPages.{sector_in, sector_below, log_sector, sector_bytes, log_bytes, page_in}
+use Rattle.log_recovery.specs.log_reading.declared.front.RestartFront.{RestartFront}
+use Rattle.log_recovery.specs.log_reading.Fronts.{front_in}
 use Rattle.log_recovery.specs.declared.found.RecoveredBlocks.{RecoveredBlocks}
 use Rattle.log_recovery.specs.LogStates.{own_entries, entries_by, live_entries_in, whole_entries, lap_by, lap_in, LogState, recovery_in, FoundLog, log_in}
 use Rattle.log_recovery.specs.Own.{is_in_block, is_own}

@@ -5,12 +5,12 @@ use Rattle.std.proofs.lemmas.Bool.{ltb-true, lt-ltb}
 use Rattle.disk_model.specs.declared.block.Block.{Block}
 use Rattle.disk_model.specs.declared.block.BlockKind.TheVariants.{Plain}
 use Rattle.disk_model.specs.Sectors.{sectors}
-use Rattle.record_model.specs.declared.runs.Run.{Run}
+use Rattle.state_model.specs.record_model.declared.runs.Run.{Run}
 use Rattle.state_model.specs.declared.stream.Extents.{Extents}
 use Rattle.state_model.specs.declared.stream.Stream.TheVariants.{Placed}
 use Rattle.state_model.specs.Streams.{holds, lcn_in, block_at}
-use Rattle.log_page.specs.Places.{page_bytes}
-use Rattle.log_reading.specs.LogPages.{sector_in, sector_below, log_sector}
+use Rattle.log_recovery.specs.log_page.Places.{page_bytes}
+use Rattle.log_recovery.specs.log_reading.LogPages.{sector_in, sector_below, log_sector}
 use Rattle.image_open.specs.LogPlaces.{nowhere, first_of, stream_sector, stream_sectors, stream_place}
 use Rattle.image_open.specs.LogLaws.{LogLiesInStream}
 use Rattle.image_open.proofs.Alike.{in_stream}

@@ -17,11 +17,11 @@ use Rattle.image_open.specs.declared.refusal.Refusal.{Refusal}
 use Rattle.image_open.specs.declared.refusal.MountFault.{MountFault}
 use Rattle.image_open.specs.declared.refusal.MountFault.TheVariants as errors
 use Rattle.log_model.specs.Logs.{recovered}
-use Rattle.log_page.specs.declared.places.LogPlace.{LogPlace}
-use Rattle.log_reading.specs.declared.fault.LogRefusal.{LogRefusal}
-use Rattle.log_reading.specs.declared.fault.RecoveryFault.{RecoveryFault}
-use Rattle.log_reading.specs.declared.fault.RecoveryFault.TheVariants as recoveries
-use Rattle.log_reading.specs.Views.{recovery_cause}
+use Rattle.log_recovery.specs.log_page.declared.places.LogPlace.{LogPlace}
+use Rattle.log_recovery.specs.log_reading.declared.fault.LogRefusal.{LogRefusal}
+use Rattle.log_recovery.specs.log_reading.declared.fault.RecoveryFault.{RecoveryFault}
+use Rattle.log_recovery.specs.log_reading.declared.fault.RecoveryFault.TheVariants as recoveries
+use Rattle.log_recovery.specs.log_reading.Views.{recovery_cause}
 use Rattle.log_recovery.specs.declared.whole.Recovered.{Recovered}
 use Rattle.log_recovery.specs.Recovering.{content_with}
 use Rattle.log_recovery.specs.LogStates.{LogState, recovery_in, IsRecoveredBy, RecoversLog}

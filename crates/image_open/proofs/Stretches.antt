@@ -8,12 +8,12 @@ use Rattle.std.proofs.lemmas.Bool.{cases_lt, and_parts, leb-true, ltb-true, ltb-
 use Rattle.std.proofs.lemmas.List.Elements.{recursion_from_All}
 use Rattle.std.proofs.lemmas.List.Sums.{sum_by-cons, sum_by-append}
 use Rattle.disk_model.specs.declared.block.BlockKind.TheVariants.{Plain}
-use Rattle.record_model.specs.declared.runs.Run.{Run}
-use Rattle.record_model.specs.Pairs.{cluster_limit}
+use Rattle.state_model.specs.record_model.declared.runs.Run.{Run}
+use Rattle.state_model.specs.record_model.Pairs.{cluster_limit}
 use Rattle.state_model.specs.Streams.{holds, lcn_in, block_at}
-use Rattle.record_model.specs.Runs.{IsSmall, AreSmall}
-use Rattle.log_page.specs.declared.places.Extent.{Extent}
-use Rattle.log_reading.specs.LogPages.{sector_in, sector_below}
+use Rattle.state_model.specs.record_model.Runs.{IsSmall, AreSmall}
+use Rattle.log_recovery.specs.log_page.declared.places.Extent.{Extent}
+use Rattle.log_recovery.specs.log_reading.LogPages.{sector_in, sector_below}
 use Rattle.image_open.specs.LogPlaces.{nowhere, first_of, stream_sector, sector_extent, IsHeldAlike, AreSectors}
 
 -- ---- VCNs at which a run begins or ends

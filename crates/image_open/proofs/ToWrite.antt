@@ -5,13 +5,13 @@ use Rattle.host_base.specs.Answers.{◌>>=◌, ExplainsOrFails}
 use Rattle.host_base.proofs.Known.{both, one}
 use Rattle.disk_model.specs.declared.block.Block.{Block}
 use Rattle.disk_model.specs.Content.{Content}
-use Rattle.record_model.specs.Records.{Record}
+use Rattle.state_model.specs.record_model.Records.{Record}
 use Rattle.state_model.specs.declared.geometry.Geometry.{Geometry}
-use Rattle.log_page.specs.declared.places.LogPlace.{LogPlace}
-use Rattle.log_reading.specs.declared.fault.LogRefusal.{LogRefusal}
-use Rattle.log_reading.specs.declared.fault.RecoveryFault.{RecoveryFault}
-use Rattle.log_reading.specs.declared.fault.RecoveryFault.TheVariants as recoveries
-use Rattle.log_reading.specs.Views.{recovery_cause}
+use Rattle.log_recovery.specs.log_page.declared.places.LogPlace.{LogPlace}
+use Rattle.log_recovery.specs.log_reading.declared.fault.LogRefusal.{LogRefusal}
+use Rattle.log_recovery.specs.log_reading.declared.fault.RecoveryFault.{RecoveryFault}
+use Rattle.log_recovery.specs.log_reading.declared.fault.RecoveryFault.TheVariants as recoveries
+use Rattle.log_recovery.specs.log_reading.Views.{recovery_cause}
 use Rattle.log_recovery.specs.declared.writing.ToWrite.{ToWrite}
 use Rattle.log_recovery.specs.LogStates.{LogState}
 use Rattle.log_recovery.specs.Writing.{to_write_in, IsToWriteBy, RecoversToWrite}

@@ -7,10 +7,10 @@ use Rattle.boot_sector.specs.declared.boot.BootFault.{BootFault}
 use Rattle.boot_sector.specs.declared.boot.BootFault.TheVariants as boots
 use Rattle.state_model.specs.declared.geometry.MapRefusal.{MapRefusal}
 use Rattle.state_model.specs.declared.geometry.MapRefusal.TheVariants as maps
-use Rattle.log_reading.specs.declared.fault.LogRefusal.{LogRefusal}
-use Rattle.log_reading.specs.declared.fault.LogRefusal.TheVariants as logs
-use Rattle.log_reading.specs.declared.fault.RecoveryFault.{RecoveryFault}
-use Rattle.log_reading.specs.declared.fault.RecoveryFault.TheVariants as recoveries
+use Rattle.log_recovery.specs.log_reading.declared.fault.LogRefusal.{LogRefusal}
+use Rattle.log_recovery.specs.log_reading.declared.fault.LogRefusal.TheVariants as logs
+use Rattle.log_recovery.specs.log_reading.declared.fault.RecoveryFault.{RecoveryFault}
+use Rattle.log_recovery.specs.log_reading.declared.fault.RecoveryFault.TheVariants as recoveries
 use Rattle.volume_map.specs.declared.fault.MapFault.{MapFault}
 use Rattle.volume_map.specs.declared.fault.MapFault.TheVariants as faults
 use Rattle.image_open.specs.declared.refusal.Refusal.{Refusal}

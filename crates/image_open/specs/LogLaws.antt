@@ -5,8 +5,8 @@ use Rattle.disk_model.specs.declared.block.BlockKind.TheVariants.{Plain}
 use Rattle.state_model.specs.declared.stream.Extents.{Extents}
 use Rattle.state_model.specs.declared.stream.Stream.TheVariants.{Placed}
 use Rattle.state_model.specs.Streams.{block_at}
-use Rattle.log_page.specs.Places.{page_bytes}
-use Rattle.log_reading.specs.LogPages.{log_sector}
+use Rattle.log_recovery.specs.log_page.Places.{page_bytes}
+use Rattle.log_recovery.specs.log_reading.LogPages.{log_sector}
 use Rattle.image_open.specs.LogPlaces.{nowhere, stream_place}
 
 -- Each sector that the stream has on the device, in whole pages and below the initialised size, is the log's sector of that number; and

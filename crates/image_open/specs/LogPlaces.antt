@@ -3,14 +3,14 @@ use Rattle.std.specs.Prelude.{ℕ, ◌≡◌, ◌*◌, ◌/◌, ◌^◌, ◌≤�
 use Rattle.std.specs.List.{range_with_len}
 use Rattle.disk_model.specs.declared.block.Block.{Block}
 use Rattle.disk_model.specs.declared.block.BlockKind.TheVariants.{Plain}
-use Rattle.record_model.specs.declared.runs.Run.{Run}
+use Rattle.state_model.specs.record_model.declared.runs.Run.{Run}
 use Rattle.state_model.specs.declared.stream.Stream.{Stream}
 use Rattle.state_model.specs.declared.stream.Stream.TheVariants.{Held, Placed}
 use Rattle.state_model.specs.Streams.{holds, block_at}
-use Rattle.log_page.specs.declared.places.Extent.{Extent}
-use Rattle.log_page.specs.declared.places.LogPlace.{LogPlace}
-use Rattle.log_page.specs.Places.{page_bytes}
-use Rattle.log_reading.specs.LogPages.{sector_in, sector_below, log_sector}
+use Rattle.log_recovery.specs.log_page.declared.places.Extent.{Extent}
+use Rattle.log_recovery.specs.log_page.declared.places.LogPlace.{LogPlace}
+use Rattle.log_recovery.specs.log_page.Places.{page_bytes}
+use Rattle.log_recovery.specs.log_reading.LogPages.{sector_in, sector_below, log_sector}
 
 -- a sector after the end of each device
 abbrev pub nowhere : ℕ

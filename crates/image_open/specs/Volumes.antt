@@ -5,14 +5,14 @@ use Rattle.disk_model.specs.declared.block.Block.{Block}
 use Rattle.disk_model.specs.declared.block.BlockKind.TheVariants.{Plain}
 use Rattle.disk_model.specs.Sectors.{sector_of}
 use Rattle.disk_model.specs.Content.{Content, content_of}
-use Rattle.record_model.specs.Records.{Record}
+use Rattle.state_model.specs.record_model.Records.{Record}
 use Rattle.state_model.specs.declared.geometry.Geometry.{Geometry}
 use Rattle.state_model.specs.declared.stream.Stream.{Stream}
 use Rattle.state_model.specs.Loads.{slot_of, judged, boot_block, data_stream}
 use Rattle.boot_sector.specs.declared.boot.Boot.{Boot}
 use Rattle.boot_sector.specs.BootSectors.{boot_of, clusters}
 use Rattle.log_model.specs.Logs.{recovered}
-use Rattle.log_page.specs.declared.places.LogPlace.{LogPlace}
+use Rattle.log_recovery.specs.log_page.declared.places.LogPlace.{LogPlace}
 use Rattle.log_recovery.specs.LogStates.{LogState, recovery_in}
 use Rattle.image_open.specs.declared.refusal.Refusal.{Refusal}
 use Rattle.image_open.specs.declared.refusal.Refusal.TheVariants.{Short}

@@ -7,7 +7,7 @@ use Rattle.state_model.specs.declared.geometry.Geometry.{Geometry}
 use Rattle.state_model.specs.Loads.{boot_block}
 use Rattle.boot_sector.specs.declared.boot.Boot.{Boot}
 use Rattle.boot_sector.specs.BootSectors.{clusters}
-use Rattle.log_page.specs.declared.places.LogPlace.{LogPlace}
+use Rattle.log_recovery.specs.log_page.declared.places.LogPlace.{LogPlace}
 use Rattle.log_recovery.specs.declared.writing.ToWrite.{ToWrite}
 use Rattle.log_recovery.specs.LogStates.{LogState}
 use Rattle.log_recovery.specs.Writing.{to_write_in, IsToWrite}

@@ -24,8 +24,11 @@ mod volume;
 mod writing;
 
 pub use clusters::clusters_in;
+pub use log_recovery::{DeviceView, Extent, LogPlace, PIECE_BYTES, piece_room};
 pub use opening::{Opening, open_volume};
 pub use reader::{ViewReader, VolumeReader};
 pub use refusal::{MountFault, Refusal};
+pub use state_model::{ClusterSize, Extents, Geometry};
 pub use volume::{in_volume, with_view, with_volume};
+pub use volume_map::{VolumeMap, boot_block, file_stream, has_type, load_volume};
 pub use writing::{OpeningToWrite, open_to_write};

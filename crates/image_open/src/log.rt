@@ -3,7 +3,7 @@ ghost use Rattle.std.specs.Prelude.{◌≡◌, ◌*◌, ◌^◌, ◌<◌, All, I
 ghost use Rattle.host_base.specs.Answers.{GivesOrFails};
 ghost use Rattle.block_view.specs.Views.{AsksView};
 ghost use Rattle.state_model.specs.Loads.{data_stream};
-ghost use Rattle.log_reading.specs.LogPages.{IsLogPlace};
+ghost use Rattle.log_recovery.specs.log_reading.LogPages.{IsLogPlace};
 ghost use Rattle.log_recovery.specs.Recovering.{content_with, IsSized};
 ghost use Rattle.log_recovery.specs.LogStates.{recovery_in};
 ghost use Rattle.image_open.specs.Errors.{scan_cause};
@@ -15,15 +15,11 @@ use crate::place::place_of_log;
 use crate::refusal::MountFault;
 use block_view::View;
 use disk_model::Body;
-use file_record::FileRec;
 use host_base::Memory;
-use log_page::LogPlace;
-use log_recovery::{RecoveredBlocks, recover_view};
-use record_model::DATA;
-use state_model::{Geometry, Stream};
+use log_recovery::{LogPlace, RecoveredBlocks, recover_view};
+use state_model::{DATA, Geometry, Stream};
 use std::alloc::Global;
-use stream_map::stream_of;
-use volume_map::boot_record;
+use volume_map::{FileRec, boot_record, stream_of};
 
 /// The number of the log's record.
 pub const LOG_RECORD: u64 = 2;

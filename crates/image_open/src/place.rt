@@ -1,15 +1,14 @@
 //! Where a volume's log lies.
 ghost use Rattle.std.specs.Prelude.{◌≡◌, ◌*◌, ◌^◌, ◌<◌, ◌≤◌, nat_lt, if◌then◌else◌, min, All, IfOk, IfSome, OnOk, length};
 ghost use Rattle.state_model.specs.declared.stream.Stream.TheVariants.{Placed};
-ghost use Rattle.log_reading.specs.LogPages.{IsSmall as IsSmallExtent, IsLogPlace};
+ghost use Rattle.log_recovery.specs.log_reading.LogPages.{IsSmall as IsSmallExtent, IsLogPlace};
 ghost use Rattle.image_open.specs.LogPlaces.{first_of, stream_sector, log_of, stream_place, place_of_log, LieAlike, IsHeldAlike, AreSectors};
 
 use disk_model::{Block, BlockKind};
-use log_page::{Extent, LogPlace, LogRuns};
-use record_model::{Run, Runs};
-use state_model::{ClusterSize, Extents as StreamExtents, Stream};
+use log_recovery::{Extent, LogPlace, LogRuns};
+use state_model::{ClusterSize, Extents as StreamExtents, Run, Runs, Stream};
 use std::alloc::{AllocError, Global};
-use stream_map::block_at;
+use volume_map::block_at;
 
 // A sector after the end of each device.
 const NOWHERE: u64 = 1 << 62;

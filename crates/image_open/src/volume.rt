@@ -4,7 +4,7 @@ ghost use Rattle.host_base.specs.Answers.{GivesOrFails};
 ghost use Rattle.host_base.specs.Causes.{HasFailed, last_moment};
 ghost use Rattle.disk_model.specs.Sectors.{sector_of};
 ghost use Rattle.disk_model.specs.Content.{content_of};
-ghost use Rattle.device_view.specs.Devices.{KeepsDevice, CountsOnDevice};
+ghost use Rattle.log_recovery.specs.device_view.Devices.{KeepsDevice, CountsOnDevice};
 ghost use Rattle.block_view.specs.Views.{AsksView};
 ghost use Rattle.image_open.specs.Errors.{scan_cause};
 ghost use Rattle.image_open.specs.Openings.{IsOpening, content_after};
@@ -14,8 +14,7 @@ use crate::opening::{Opening, open_volume};
 use crate::reader::{ViewReader, VolumeReader};
 use crate::refusal::{MountFault, Refusal};
 use block_view::View;
-use device_view::{DeviceView, piece_room};
-use log_recovery::{RecoveredView, places_of};
+use log_recovery::{DeviceView, RecoveredView, piece_room, places_of};
 use sector_device::Device;
 use std::alloc::Global;
 

@@ -2,7 +2,7 @@
 ghost use Rattle.std.specs.Prelude.{◌≡◌, ◌*◌, ◌^◌, ◌<◌, All, IfOk, IfSome};
 ghost use Rattle.boot_sector.specs.BootSectors.{IsInProfile};
 ghost use Rattle.block_view.specs.Views.{AsksView};
-ghost use Rattle.log_reading.specs.LogPages.{IsLogPlace};
+ghost use Rattle.log_recovery.specs.log_reading.LogPages.{IsLogPlace};
 ghost use Rattle.log_recovery.specs.Recovering.{IsSized};
 ghost use Rattle.log_recovery.specs.Writing.{places_where, has_spelled};
 ghost use Rattle.image_open.specs.Errors.{scan_cause};
@@ -16,8 +16,7 @@ use crate::refusal::MountFault;
 use block_view::View;
 use boot_sector::Boot;
 use disk_model::{Block, Body};
-use log_page::LogPlace;
-use log_recovery::{ToWrite, recover_to_write};
+use log_recovery::{LogPlace, ToWrite, recover_to_write};
 use state_model::Geometry;
 use std::alloc::Global;
 use volume_map::boot_block;

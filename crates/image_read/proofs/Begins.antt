@@ -6,17 +6,17 @@ use Rattle.host_base.specs.Answers.{◌>>=◌, needs}
 use Rattle.disk_model.specs.Numbers.{field}
 use Rattle.disk_model.specs.Content.{Content}
 use Rattle.file_tree.specs.declared.journal.Usn.{Usn}
-use Rattle.state_model.specs.declared.stream.Extents.{Extents}
-use Rattle.state_model.specs.Streams.{byte_at}
+use Rattle.image_open.specs.state_model.declared.stream.Extents.{Extents}
+use Rattle.image_open.specs.state_model.Streams.{byte_at}
 use Rattle.disk_model.specs.Bytes.{all_zeros}
-use Rattle.journal_model.specs.declared.fault.UsnFault.{UsnFault}
-use Rattle.journal_model.specs.declared.fault.UsnFault.TheVariants.{Cut, Shape}
-use Rattle.journal_model.specs.UsnRecords.{is_whole, is_length, own_bytes, is_usn, usn_of, entry_in, usn_in, known_version}
-use Rattle.journal_model.specs.Pages.{with_entry, records_in, records_of}
-use Rattle.journal_model.specs.Journals.{bytes_between, placed, joined, page_entries, page_from, page_to, journal_from, journal_in}
-use Rattle.journal_model.proofs.UsnRead.{sound_parts}
-use Rattle.volume_state.specs.Journals.{journal_first, journal_entries}
-use Rattle.usn_journal.specs.Pulls.{from_on, read_entries}
+use Rattle.volume_check.specs.journal_model.declared.fault.UsnFault.{UsnFault}
+use Rattle.volume_check.specs.journal_model.declared.fault.UsnFault.TheVariants.{Cut, Shape}
+use Rattle.volume_check.specs.journal_model.UsnRecords.{is_whole, is_length, own_bytes, is_usn, usn_of, entry_in, usn_in, known_version}
+use Rattle.volume_check.specs.journal_model.Pages.{with_entry, records_in, records_of}
+use Rattle.volume_check.specs.journal_model.Journals.{bytes_between, placed, joined, page_entries, page_from, page_to, journal_from, journal_in}
+use Rattle.volume_check.proofs.journal_model.UsnRead.{sound_parts}
+use Rattle.volume_check.specs.volume_state.Journals.{journal_first, journal_entries}
+use Rattle.volume_check.specs.usn_journal.Pulls.{from_on, read_entries}
 
 -- each of these records begins at this place or behind it
 abbrev BeginFrom : ℕ → List Usn → Type 0

@@ -5,13 +5,13 @@ use Rattle.host_base.specs.Answers.{Gives, GivesOrFails}
 use Rattle.host_base.proofs.Known.{one}
 use Rattle.disk_model.specs.Content.{Content}
 use Rattle.file_tree.specs.declared.journal.Usn.{Usn}
-use Rattle.state_model.specs.declared.stream.Extents.{Extents}
-use Rattle.volume_model.specs.Volumes.{Volume, upper_of}
-use Rattle.usn_journal.specs.Places.{journal_place}
-use Rattle.volume_state.specs.Journals.{journal_first, journal_entries}
-use Rattle.usn_journal.specs.declared.pull_fault.PageFault.{PageFault}
-use Rattle.usn_journal.specs.declared.pulling.Pulled.{Pulled}
-use Rattle.usn_journal.specs.Pulls.{from_on, read_entries, pulled_in}
+use Rattle.image_open.specs.state_model.declared.stream.Extents.{Extents}
+use Rattle.volume_check.specs.volume_model.Volumes.{Volume, upper_of}
+use Rattle.volume_check.specs.usn_journal.Places.{journal_place}
+use Rattle.volume_check.specs.volume_state.Journals.{journal_first, journal_entries}
+use Rattle.volume_check.specs.usn_journal.declared.pull_fault.PageFault.{PageFault}
+use Rattle.volume_check.specs.usn_journal.declared.pulling.Pulled.{Pulled}
+use Rattle.volume_check.specs.usn_journal.Pulls.{from_on, read_entries, pulled_in}
 use Rattle.image_open.specs.declared.refusal.Refusal.TheVariants.{NoJournal}
 use Rattle.image_open.specs.declared.refusal.MountFault.{MountFault}
 use Rattle.image_open.specs.declared.refusal.MountFault.TheVariants as errors

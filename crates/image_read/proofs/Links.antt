@@ -4,11 +4,11 @@ use Rattle.std.specs.Prelude.{IfSome}
 use Rattle.host_base.specs.Answers.{◌>>=◌, GivesOrFails}
 use Rattle.host_base.proofs.Known.{one}
 use Rattle.disk_model.specs.Content.{Content}
-use Rattle.record_model.specs.Records.{Record}
+use Rattle.volume_links.specs.record_model.Records.{Record}
 use Rattle.file_tree.specs.declared.link.Link.{Link}
-use Rattle.state_model.specs.declared.geometry.Geometry.{Geometry}
-use Rattle.state_model.specs.declared.geometry.MapRefusal.{MapRefusal}
-use Rattle.state_model.specs.Loads.{loaded}
+use Rattle.image_open.specs.state_model.declared.geometry.Geometry.{Geometry}
+use Rattle.image_open.specs.state_model.declared.geometry.MapRefusal.{MapRefusal}
+use Rattle.image_open.specs.state_model.Loads.{loaded}
 use Rattle.volume_links.specs.Names.{long_links, loaded_links}
 use Rattle.image_open.specs.declared.refusal.MountFault.{MountFault}
 use Rattle.image_open.specs.Errors.{scan_cause, map_refusal, refused_as}

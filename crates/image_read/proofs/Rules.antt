@@ -4,7 +4,7 @@ use Rattle.std.specs.Prelude.{IfSome}
 use Rattle.host_base.specs.Answers.{ExplainsOrFails, GivesOrFails}
 use Rattle.host_base.proofs.Known.{one}
 use Rattle.disk_model.specs.Content.{Content}
-use Rattle.state_model.specs.declared.broken.Broken.{Broken}
+use Rattle.image_open.specs.state_model.declared.broken.Broken.{Broken}
 use Rattle.volume_check.specs.declared.fault.CheckFault.{CheckFault}
 use Rattle.volume_check.specs.declared.fault.CheckFault.TheVariants as faults
 use Rattle.volume_check.specs.Errors.{check_cause}

@@ -4,14 +4,14 @@ use Rattle.std.proofs.lemmas.Bool.Decides.{nat_tests}
 use Rattle.host_base.specs.Answers.{◌>>=◌, needs}
 use Rattle.disk_model.specs.Sectors.{sector_of}
 use Rattle.disk_model.specs.Content.{Content, content_of}
-use Rattle.record_model.proofs.Answering.{steps_from_ok, needs_from_ok}
+use Rattle.volume_links.proofs.record_model.Answering.{steps_from_ok, needs_from_ok}
 use Rattle.file_tree.specs.declared.tree.Tree.{Tree}
-use Rattle.state_model.specs.declared.geometry.Geometry.{Geometry}
-use Rattle.volume_model.specs.Volumes.{Volume, volume_of}
-use Rattle.volume_state.specs.Laws.{bare}
-use Rattle.volume_state.specs.Trees.{IsState, checked}
-use Rattle.volume_state.specs.Versions.{volume_info, is_known}
-use Rattle.volume_state.proofs.Reports.{reports, one_tree, state_reported}
+use Rattle.image_open.specs.state_model.declared.geometry.Geometry.{Geometry}
+use Rattle.volume_check.specs.volume_model.Volumes.{Volume, volume_of}
+use Rattle.volume_check.specs.volume_state.Laws.{bare}
+use Rattle.volume_check.specs.volume_state.Trees.{IsState, checked}
+use Rattle.volume_check.specs.volume_state.Versions.{volume_info, is_known}
+use Rattle.volume_check.proofs.volume_state.Reports.{reports, one_tree, state_reported}
 use Rattle.image_open.specs.declared.refusal.Refusal.{Refusal}
 use Rattle.image_open.specs.declared.refusal.Refusal.TheVariants.{Short, Version}
 use Rattle.image_open.specs.Errors.{map_refusal, refused_as}

@@ -4,22 +4,22 @@ use Rattle.std.specs.Prelude.{IfSome, IsOk}
 use Rattle.host_base.specs.Answers.{◌>>=◌, needs}
 use Rattle.host_base.proofs.Known.{both}
 use Rattle.disk_model.specs.Content.{Content}
-use Rattle.record_model.specs.declared.values.JournalMax.{JournalMax}
-use Rattle.record_model.specs.Records.{Record}
-use Rattle.record_model.specs.Constants.{attribute_list, data_type}
+use Rattle.volume_links.specs.record_model.declared.values.JournalMax.{JournalMax}
+use Rattle.volume_links.specs.record_model.Records.{Record}
+use Rattle.volume_links.specs.record_model.Constants.{attribute_list, data_type}
 use Rattle.file_tree.specs.declared.journal.Usn.{Usn}
 use Rattle.file_tree.specs.declared.tree.Tree.{Tree}
-use Rattle.state_model.specs.declared.broken.Broken.{Broken}
-use Rattle.state_model.specs.declared.stream.Extents.{Extents}
-use Rattle.state_model.specs.declared.stream.Stream.{Stream}
-use Rattle.state_model.specs.Files.{has_type}
-use Rattle.state_model.specs.Streams.{stream_of}
-use Rattle.state_model.specs.Rules.{broken_or}
-use Rattle.volume_model.specs.Volumes.{Volume, upper_of}
-use Rattle.volume_state.specs.Journals.{limits_name, entries_name, limits_in, entries_in, entries_flags, journal_file, journal_entries, journal_with, journal_of_streams, journal_of_file, journal_of, fault_of}
-use Rattle.volume_state.specs.Rules.{broken_1, broken_2, broken_3, broken_4, broken_5, broken_6, broken_7, broken_8, broken_9, first_broken}
-use Rattle.volume_state.specs.Trees.{reported, checked}
-use Rattle.usn_journal.specs.Places.{in_shape, place_of_streams, place_of_file, journal_place}
+use Rattle.image_open.specs.state_model.declared.broken.Broken.{Broken}
+use Rattle.image_open.specs.state_model.declared.stream.Extents.{Extents}
+use Rattle.image_open.specs.state_model.declared.stream.Stream.{Stream}
+use Rattle.image_open.specs.state_model.Files.{has_type}
+use Rattle.image_open.specs.state_model.Streams.{stream_of}
+use Rattle.image_open.specs.state_model.Rules.{broken_or}
+use Rattle.volume_check.specs.volume_model.Volumes.{Volume, upper_of}
+use Rattle.volume_check.specs.volume_state.Journals.{limits_name, entries_name, limits_in, entries_in, entries_flags, journal_file, journal_entries, journal_with, journal_of_streams, journal_of_file, journal_of, fault_of}
+use Rattle.volume_check.specs.volume_state.Rules.{broken_1, broken_2, broken_3, broken_4, broken_5, broken_6, broken_7, broken_8, broken_9, first_broken}
+use Rattle.volume_check.specs.volume_state.Trees.{reported, checked}
+use Rattle.volume_check.specs.usn_journal.Places.{in_shape, place_of_streams, place_of_file, journal_place}
 use Rattle.image_open.specs.Errors.{refused_as}
 use Rattle.image_read.specs.Errors.{broken_refusal}
 use Rattle.image_read.specs.Checks.{tree_on}

@@ -2,12 +2,12 @@
 use Rattle.std.specs.Prelude.{ℕ, List, Result}
 use Rattle.host_base.specs.Answers.{◌>>=◌, needs}
 use Rattle.disk_model.specs.Content.{Content}
-use Rattle.record_model.specs.declared.values.VolumeInfo.{VolumeInfo}
+use Rattle.volume_links.specs.record_model.declared.values.VolumeInfo.{VolumeInfo}
 use Rattle.file_tree.specs.declared.tree.Tree.{Tree}
-use Rattle.state_model.specs.declared.geometry.Geometry.{Geometry}
-use Rattle.volume_model.specs.Volumes.{Volume, volume_of}
-use Rattle.volume_state.specs.Versions.{volume_info, is_known}
-use Rattle.volume_state.specs.Trees.{checked}
+use Rattle.image_open.specs.state_model.declared.geometry.Geometry.{Geometry}
+use Rattle.volume_check.specs.volume_model.Volumes.{Volume, volume_of}
+use Rattle.volume_check.specs.volume_state.Versions.{volume_info, is_known}
+use Rattle.volume_check.specs.volume_state.Trees.{checked}
 use Rattle.image_open.specs.declared.refusal.Refusal.{Refusal}
 use Rattle.image_open.specs.declared.refusal.Refusal.TheVariants.{Version}
 use Rattle.image_open.specs.Errors.{map_refusal, refused_as}

@@ -1,11 +1,11 @@
 -- What a broken rule, and what keeps a journal from being read, is for an image.
-use Rattle.state_model.specs.declared.broken.Broken.{Broken}
+use Rattle.image_open.specs.state_model.declared.broken.Broken.{Broken}
 use Rattle.volume_check.specs.declared.fault.CheckFault.{CheckFault}
 use Rattle.volume_check.specs.declared.fault.CheckFault.TheVariants as faults
-use Rattle.usn_journal.specs.declared.place.PlaceFault.{PlaceFault}
-use Rattle.usn_journal.specs.declared.place.PlaceFault.TheVariants as places
-use Rattle.usn_journal.specs.declared.pull_fault.PageFault.{PageFault}
-use Rattle.usn_journal.specs.declared.pull_fault.PageFault.TheVariants as pages
+use Rattle.volume_check.specs.usn_journal.declared.place.PlaceFault.{PlaceFault}
+use Rattle.volume_check.specs.usn_journal.declared.place.PlaceFault.TheVariants as places
+use Rattle.volume_check.specs.usn_journal.declared.pull_fault.PageFault.{PageFault}
+use Rattle.volume_check.specs.usn_journal.declared.pull_fault.PageFault.TheVariants as pages
 use Rattle.image_open.specs.declared.refusal.Refusal.{Refusal}
 use Rattle.image_open.specs.declared.refusal.Refusal.TheVariants.{BadVolume, NoJournal}
 use Rattle.image_open.specs.declared.refusal.MountFault.{MountFault}

@@ -2,11 +2,11 @@
 use Rattle.std.specs.Prelude.{ℕ, List, Result, Ok}
 use Rattle.host_base.specs.Answers.{◌>>=◌}
 use Rattle.disk_model.specs.Content.{Content}
-use Rattle.state_model.specs.declared.stream.Extents.{Extents}
-use Rattle.volume_model.specs.Volumes.{Volume, upper_of}
-use Rattle.volume_state.specs.Journals.{journal_first, journal_entries}
-use Rattle.usn_journal.specs.Places.{journal_place}
-use Rattle.usn_journal.specs.Pulls.{read_entries}
+use Rattle.image_open.specs.state_model.declared.stream.Extents.{Extents}
+use Rattle.volume_check.specs.volume_model.Volumes.{Volume, upper_of}
+use Rattle.volume_check.specs.volume_state.Journals.{journal_first, journal_entries}
+use Rattle.volume_check.specs.usn_journal.Places.{journal_place}
+use Rattle.volume_check.specs.usn_journal.Pulls.{read_entries}
 use Rattle.image_open.specs.declared.refusal.Refusal.{Refusal}
 use Rattle.image_open.specs.declared.refusal.Refusal.TheVariants.{NoJournal}
 use Rattle.image_open.specs.Errors.{refused_as}

@@ -3,9 +3,9 @@ use Rattle.std.specs.Prelude.{◌≡◌, ℕ, ◌<◌, true, List, length, Ok}
 use Rattle.disk_model.specs.Sectors.{sector_of}
 use Rattle.disk_model.specs.Content.{content_of}
 use Rattle.file_tree.specs.declared.tree.Tree.{Tree}
-use Rattle.volume_state.specs.Laws.{bare}
-use Rattle.volume_state.specs.Trees.{IsState}
-use Rattle.volume_state.specs.Versions.{volume_info, is_known}
+use Rattle.volume_check.specs.volume_state.Laws.{bare}
+use Rattle.volume_check.specs.volume_state.Trees.{IsState}
+use Rattle.volume_check.specs.volume_state.Versions.{volume_info, is_known}
 use Rattle.image_open.specs.Volumes.{Opened, opened_in}
 use Rattle.image_read.specs.Checks.{check_of}
 

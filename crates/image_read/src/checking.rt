@@ -2,8 +2,8 @@
 ghost use Rattle.std.specs.Prelude.{◌≡◌, ◌*◌, ◌^◌, ◌<◌, IfOk, Err, IfSome, IsErrOf};
 ghost use Rattle.host_base.specs.Answers.{Gives, GivesOrFails};
 ghost use Rattle.host_base.specs.Causes.{HasFailed, last_moment};
-ghost use Rattle.device_view.specs.Devices.{KeepsDevice, CountsOnDevice};
-ghost use Rattle.volume_map.specs.Maps.{IsMapOf, volume_in};
+ghost use Rattle.image_open.specs.device_view.Devices.{KeepsDevice, CountsOnDevice};
+ghost use Rattle.image_open.specs.volume_map.Maps.{IsMapOf, volume_in};
 ghost use Rattle.block_view.specs.Views.{AsksView};
 ghost use Rattle.image_open.specs.Errors.{scan_cause};
 ghost use Rattle.image_read.specs.Errors.{error_of_check};
@@ -12,14 +12,11 @@ ghost use Rattle.image_read.specs.Checks.{judged_version, has_version, tree_on, 
 use crate::loading::{Loads, MapReader};
 use block_view::View;
 use file_tree::Tree;
-use image_open::{MountFault, Refusal, with_volume};
-use record_model::VolumeInfo;
+use image_open::{Geometry, MountFault, Refusal, VolumeMap, load_volume, with_volume};
 use sector_device::Device;
-use state_model::Geometry;
 use std::alloc::Global;
-use system_files::volume_info;
-use volume_check::{CheckFault, check};
-use volume_map::{VolumeMap, load_volume};
+use volume_check::{CheckFault, check, volume_info};
+use volume_links::VolumeInfo;
 
 fn error_of(fault: CheckFault) -> MountFault
     ensures value { result ≡ error_of_check fault }

@@ -22,6 +22,11 @@ mod records;
 mod scanning;
 
 pub use checking::{check_image, check_version, tree_on, volume_on};
+pub use image_open::{
+    DeviceView, Extent, LogPlace, MountFault, OpeningToWrite, PIECE_BYTES, Refusal, VolumeMap,
+    boot_block, file_stream, has_type, open_to_write, piece_room,
+};
 pub use laws::check_of_image;
 pub use reading::{ReadJournal, read_journal};
 pub use scanning::scan_image;
+pub use volume_check::upper_table;

@@ -3,18 +3,16 @@ ghost use Rattle.std.specs.Prelude.{◌≡◌, ◌*◌, ◌^◌, ◌<◌, Result
 ghost use Rattle.host_base.specs.Answers.{GivesOrFails};
 ghost use Rattle.disk_model.specs.Content.{Content};
 ghost use Rattle.block_view.specs.Views.{AsksView};
-ghost use Rattle.volume_model.specs.Volumes.{Volume};
-ghost use Rattle.volume_map.specs.Maps.{IsMapOf, volume_in};
+ghost use Rattle.volume_check.specs.volume_model.Volumes.{Volume};
+ghost use Rattle.image_open.specs.volume_map.Maps.{IsMapOf, volume_in};
 ghost use Rattle.image_open.specs.Errors.{scan_cause};
 ghost use Rattle.image_open.specs.declared.refusal.Refusal.{Refusal as the_refusal};
 ghost use Rattle.image_read.specs.Checks.{loaded_in};
 
 use crate::checking::volume_on;
 use block_view::View;
-use image_open::{MountFault, VolumeReader};
-use state_model::Geometry;
+use image_open::{Geometry, MountFault, VolumeMap, VolumeReader};
 use std::alloc::Global;
-use volume_map::VolumeMap;
 
 /// Something that is read of a loaded volume.
 pub trait MapReader {

@@ -2,12 +2,12 @@
 ghost use Rattle.std.specs.Prelude.{◌≡◌, ◌*◌, ◌^◌, ◌<◌, ◌≤◌, Ok, IsOk, Err, IfSome, IsErrOf};
 ghost use Rattle.host_base.specs.Answers.{GivesOrFails};
 ghost use Rattle.host_base.specs.Causes.{HasFailed, last_moment};
-ghost use Rattle.device_view.specs.Devices.{KeepsDevice, CountsOnDevice};
-ghost use Rattle.volume_map.specs.Maps.{IsMapOf, volume_in};
+ghost use Rattle.image_open.specs.device_view.Devices.{KeepsDevice, CountsOnDevice};
+ghost use Rattle.image_open.specs.volume_map.Maps.{IsMapOf, volume_in};
 ghost use Rattle.block_view.specs.Views.{AsksView};
-ghost use Rattle.volume_model.specs.Volumes.{upper_of};
-ghost use Rattle.volume_state.specs.Journals.{journal_first, journal_entries};
-ghost use Rattle.usn_journal.specs.Places.{journal_place};
+ghost use Rattle.volume_check.specs.volume_model.Volumes.{upper_of};
+ghost use Rattle.volume_check.specs.volume_state.Journals.{journal_first, journal_entries};
+ghost use Rattle.volume_check.specs.usn_journal.Places.{journal_place};
 ghost use Rattle.image_open.specs.Errors.{scan_cause};
 ghost use Rattle.image_read.specs.Records.{place_on, records_in, records_by, placed_records, volume_records, journal_of};
 
@@ -17,12 +17,10 @@ use crate::records::{all_entries, place_on};
 use block_view::View;
 use disk_model::Body;
 use file_tree::UsnList;
-use image_open::{MountFault, Refusal, with_volume};
+use image_open::{ClusterSize, Extents, MountFault, Refusal, VolumeMap, with_volume};
 use sector_device::Device;
-use state_model::{ClusterSize, Extents};
 use std::alloc::Global;
-use usn_journal::first_byte;
-use volume_map::VolumeMap;
+use volume_check::first_byte;
 
 /// The records of a volume's change journal.
 #[derive(Debug, Drop)]

@@ -2,13 +2,13 @@
 ghost use Rattle.std.specs.Prelude.{◌≡◌, ◌<◌, ◌≤◌, List, length, IfOk, IfSome, IsOk, Ok};
 ghost use Rattle.host_base.specs.Answers.{Gives, GivesOrFails};
 ghost use Rattle.file_tree.specs.declared.journal.Usn.{Usn as UsnOf};
-ghost use Rattle.state_model.specs.Loads.{table_in};
-ghost use Rattle.state_model.specs.Trees.{all_links};
-ghost use Rattle.volume_map.specs.Maps.{volume_in};
+ghost use Rattle.image_open.specs.state_model.Loads.{table_in};
+ghost use Rattle.image_open.specs.state_model.Trees.{all_links};
+ghost use Rattle.image_open.specs.volume_map.Maps.{volume_in};
 ghost use Rattle.block_view.specs.Views.{AsksView};
-ghost use Rattle.volume_state.specs.Journals.{journal_first, journal_entries};
-ghost use Rattle.usn_journal.specs.Places.{journal_place};
-ghost use Rattle.usn_journal.specs.Pulls.{read_entries};
+ghost use Rattle.volume_check.specs.volume_state.Journals.{journal_first, journal_entries};
+ghost use Rattle.volume_check.specs.usn_journal.Places.{journal_place};
+ghost use Rattle.volume_check.specs.usn_journal.Pulls.{read_entries};
 ghost use Rattle.image_open.specs.Errors.{scan_cause, refused_as};
 ghost use Rattle.image_open.specs.declared.refusal.Refusal.TheVariants.{NoJournal};
 ghost use Rattle.image_read.specs.Errors.{error_of_place, error_of_pages};
@@ -17,14 +17,10 @@ ghost use Rattle.image_read.specs.Records.{place_on};
 use block_view::View;
 use disk_model::Body;
 use file_tree::{Link, UsnList};
-use image_open::{MountFault, Refusal};
-use record_rules::all_links;
-use state_model::{ClusterSize, Extents};
+use image_open::{ClusterSize, Extents, MountFault, Refusal, VolumeMap};
 use std::alloc::Global;
-use system_files::upper_table;
-use upcase_order::Upcase;
-use usn_journal::{PageFault, PlaceFault, journal_place, pull_inside};
-use volume_map::VolumeMap;
+use volume_check::{PageFault, PlaceFault, Upcase, journal_place, pull_inside, upper_table};
+use volume_links::all_links;
 
 // The most records that are asked for at once.
 const MOST: u32 = u32::MAX;

@@ -2,16 +2,15 @@
 ghost use Rattle.std.specs.Prelude.{◌≡◌, ◌*◌, ◌^◌, ◌<◌, Err, IfSome, IsErrOf};
 ghost use Rattle.host_base.specs.Answers.{GivesOrFails};
 ghost use Rattle.host_base.specs.Causes.{HasFailed, last_moment};
-ghost use Rattle.device_view.specs.Devices.{KeepsDevice, CountsOnDevice};
+ghost use Rattle.image_open.specs.device_view.Devices.{KeepsDevice, CountsOnDevice};
 ghost use Rattle.block_view.specs.Views.{AsksView};
 ghost use Rattle.image_open.specs.Errors.{scan_cause};
 ghost use Rattle.image_read.specs.Scans.{links_in, scan_of};
 
 use block_view::View;
 use file_tree::Link;
-use image_open::{MountFault, Refusal, VolumeReader, with_volume};
+use image_open::{Geometry, MountFault, Refusal, VolumeReader, with_volume};
 use sector_device::Device;
-use state_model::Geometry;
 use std::alloc::Global;
 use volume_links::load_links;
 

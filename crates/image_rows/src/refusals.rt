@@ -1,8 +1,7 @@
 //! Scans, checks and readings of images that are refused, and of a device that fails.
 use crate::devices::device;
 use disk_model::{put_bytes, put_u16, put_u64};
-use image_open::{MountFault, Refusal};
-use image_read::{check_image, read_journal, scan_image};
+use image_read::{MountFault, Refusal, check_image, read_journal, scan_image};
 use sector_device::MemoryDevice;
 use std::alloc::{AllocError, Global};
 use std::test::Fail;

@@ -1,12 +1,12 @@
 -- The keys that are counted are those of the tree, and the blocks that are met are its nodes.
 use Rattle.std.proofs.Common.{◌≡◌, ℕ, zero, suc, ◌≤◌, List, ◌∷◌, ◌++◌, length, length-append, append-nil, Some, Result, Ok, refl, ap, ◌∙◌, arith}
-use Rattle.disk_model.specs.Content.{Content}
+use Rattle.record_model.specs.disk_model.Content.{Content}
 use Rattle.record_model.specs.declared.entry.Entry.{Entry as Raw}
 use Rattle.record_model.specs.Nodes.{root_at}
-use Rattle.index_model.specs.Trees.{Tree, Leaf, Down, Entry, DownEntry, walk, levels, raws_of, Stands}
-use Rattle.index_model.specs.Indexes.{Place, node_of_block, nodes_of}
-use Rattle.index_model.specs.Laws.{HoldsIndex}
-use Rattle.index_model.proofs.Complete.{some_levels}
+use Rattle.index_tree.specs.index_model.Trees.{Tree, Leaf, Down, Entry, DownEntry, walk, levels, raws_of, Stands}
+use Rattle.index_tree.specs.index_model.Indexes.{Place, node_of_block, nodes_of}
+use Rattle.index_tree.specs.index_model.Laws.{HoldsIndex}
+use Rattle.index_tree.proofs.index_model.Complete.{some_levels}
 use Rattle.index_plan.specs.Removal.{vcns}
 use Rattle.index_change.specs.Heights.{if_read}
 use Rattle.index_change.specs.Amounts.{key_before, keys_in, keys_below, keys_of, blocks_in, block_and, blocks_below, blocks_of}

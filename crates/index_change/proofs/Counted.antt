@@ -4,13 +4,13 @@ use Rattle.std.specs.Prelude.{IfSome}
 use Rattle.std.proofs.lemmas.List.{drop_all}
 use Rattle.std.specs.List.{AllByRecursion}
 use Rattle.std.proofs.lemmas.List.Elements.{All-from_recursion}
-use Rattle.block_view.specs.Changes.{Fits}
+use Rattle.index_tree.specs.block_view.Changes.{Fits}
 use Rattle.record_model.proofs.NodeSpelling.{length-node_spelling}
 use Rattle.index_node.specs.Roots.{new_node}
-use Rattle.disk_model.specs.declared.block.Change.{Change}
-use Rattle.disk_model.specs.Content.{Content}
+use Rattle.record_model.specs.disk_model.declared.block.Change.{Change}
+use Rattle.record_model.specs.disk_model.Content.{Content}
 use Rattle.record_model.specs.declared.entry.Entry.{Entry}
-use Rattle.index_model.specs.Indexes.{Place}
+use Rattle.index_tree.specs.index_model.Indexes.{Place}
 use Rattle.index_plan.specs.declared.write.Write.{Write}
 use Rattle.index_change.specs.Changing.{PutsNode, PutNodes, WasOld, AllWereOld}
 use Rattle.index_change.specs.Heights.{tallest}

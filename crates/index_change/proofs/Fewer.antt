@@ -2,10 +2,10 @@
 use Rattle.std.proofs.Common.{◌≡◌, ℕ, zero, suc, ◌+◌, ◌-◌, ◌<◌, ◌≤◌, min, List, [], ◌∷◌, ◌++◌, length, get_or, drop, drop-cons, append_assoc, append-nil, Option, Some, None, Result, Ok, Err, refl, sym, ap, ◌∙◌, subst, add-one, arith}
 use Rattle.std.specs.Prelude.{IfSome, IfOk}
 use Rattle.std.proofs.lemmas.List.{drop_all}
-use Rattle.disk_model.specs.Content.{Content}
+use Rattle.record_model.specs.disk_model.Content.{Content}
 use Rattle.record_model.specs.declared.entry.Entry.{Entry as Raw}
 use Rattle.record_model.specs.Nodes.{Node as NodeOf}
-use Rattle.block_view.specs.declared.fault.ViewFault.{ViewFault}
+use Rattle.index_tree.specs.block_view.declared.fault.ViewFault.{ViewFault}
 use Rattle.index_tree.specs.Faults.{IsRead}
 use Rattle.index_change.specs.Heights.{if_read}
 use Rattle.index_change.specs.Amounts.{key_before, keys_in, keys_below, blocks_in, block_and, blocks_below}

@@ -3,16 +3,16 @@ use Rattle.std.proofs.Common.{◌≡◌, ℕ, zero, suc, ◌+◌, ◌-◌, ◌<�
 use Rattle.std.specs.Prelude.{IfSome, IsSome, OnOk}
 use Rattle.std.specs.BTreeMap.{BTreeMap}
 use Rattle.std.proofs.lemmas.Bool.{cases_eq}
-use Rattle.host_base.proofs.Known.{both, one}
-use Rattle.disk_model.specs.Content.{Content}
+use Rattle.index_tree.proofs.host_base.Known.{both, one}
+use Rattle.record_model.specs.disk_model.Content.{Content}
 use Rattle.record_model.specs.declared.entry.Entry.{Entry}
 use Rattle.record_model.specs.Nodes.{Node}
-use Rattle.file_tree.specs.declared.link.Link.{Link}
-use Rattle.index_model.specs.declared.side.Side.{Side}
-use Rattle.index_model.specs.declared.side.Side.TheVariants.{Unnamed, Before, Same, Behind}
-use Rattle.index_model.specs.Indexes.{entry_link}
-use Rattle.index_model.specs.Walks.{Event, Child, Deep, Faulty, Named, Found, below, beside, behind, found_event, entry_sought, kid_sought, sought_in, inside}
-use Rattle.index_model.specs.Breaks.{HasMet}
+use Rattle.index_tree.specs.file_tree.declared.link.Link.{Link}
+use Rattle.index_tree.specs.index_model.declared.side.Side.{Side}
+use Rattle.index_tree.specs.index_model.declared.side.Side.TheVariants.{Unnamed, Before, Same, Behind}
+use Rattle.index_tree.specs.index_model.Indexes.{entry_link}
+use Rattle.index_tree.specs.index_model.Walks.{Event, Child, Deep, Faulty, Named, Found, below, beside, behind, found_event, entry_sought, kid_sought, sought_in, inside}
+use Rattle.index_tree.specs.index_model.Breaks.{HasMet}
 use Rattle.index_plan.specs.Reading.{NodeReads}
 use Rattle.index_tree.specs.Faults.{IsRead}
 use Rattle.index_tree.proofs.Searching.{side_at, met_at, sought_next, sought_end}

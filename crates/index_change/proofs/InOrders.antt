@@ -7,11 +7,11 @@ use Rattle.std.specs.declared.cmp.Ordering.TheVariants.{Less, Equal, Greater}
 use Rattle.std.proofs.lemmas.Bool.{and_parts, not-true}
 use Rattle.std.proofs.lemmas.List.Elements.{All-nil, All-cons, All-head, All-tail}
 use Rattle.record_model.specs.Values.{is_file_name, units_of}
-use Rattle.file_tree.specs.declared.link.Link.{Link}
-use Rattle.file_tree.specs.Names.{name_order}
-use Rattle.upcase_order.proofs.NameLaws.{equal_units}
-use Rattle.index_model.specs.declared.key.Key.{Key}
-use Rattle.index_model.specs.Indexes.{links_of, precedes, rises}
+use Rattle.index_tree.specs.file_tree.declared.link.Link.{Link}
+use Rattle.index_tree.specs.file_tree.Names.{name_order}
+use Rattle.index_tree.proofs.upcase_order.NameLaws.{equal_units}
+use Rattle.index_tree.specs.index_model.declared.key.Key.{Key}
+use Rattle.index_tree.specs.index_model.Indexes.{links_of, precedes, rises}
 use Rattle.index_plan.specs.declared.side.KeySide.TheVariants as sides
 use Rattle.index_plan.specs.Seeking.{rank, InOrder}
 use Rattle.index_change.specs.Orders.{link_of, is_entry_of, stands_by, stands}

@@ -5,20 +5,20 @@ use Rattle.std.specs.Option.{option_map, ForSome}
 use Rattle.std.specs.List.{filter, list_any}
 use Rattle.std.specs.Ordering.{nat_cmp}
 use Rattle.std.specs.BTreeMap.{BTreeMap, get}
-use Rattle.host_base.specs.Answers.{GivesOrFails}
-use Rattle.host_base.specs.Causes.{CountsCause}
-use Rattle.disk_model.specs.Content.{Content}
+use Rattle.index_tree.specs.host_base.Answers.{GivesOrFails}
+use Rattle.index_tree.specs.host_base.Causes.{CountsCause}
+use Rattle.record_model.specs.disk_model.Content.{Content}
 use Rattle.record_model.specs.declared.entry.Entry.{Entry as Raw}
 use Rattle.record_model.specs.Nodes.{Node as NodeOf}
 use Rattle.record_model.specs.StdValues.{file_name_of, file_name_fields, file_name_fault}
 use Rattle.record_model.specs.Values.{is_file_name}
-use Rattle.file_tree.specs.declared.link.Link.{Link}
-use Rattle.index_model.specs.declared.key.Key.{Key}
-use Rattle.index_model.specs.Trees.{Tree, walk}
-use Rattle.index_model.specs.Indexes.{Place, node_of_block, entry_link, links_of}
-use Rattle.state_model.specs.Files.{named}
-use Rattle.index_model.specs.Laws.{HoldsIndex}
-use Rattle.block_view.specs.declared.fault.ViewFault.{ViewFault}
+use Rattle.index_tree.specs.file_tree.declared.link.Link.{Link}
+use Rattle.index_tree.specs.index_model.declared.key.Key.{Key}
+use Rattle.index_tree.specs.index_model.Trees.{Tree, walk}
+use Rattle.index_tree.specs.index_model.Indexes.{Place, node_of_block, entry_link, links_of}
+use Rattle.index_tree.specs.state_model.Files.{named}
+use Rattle.index_tree.specs.index_model.Laws.{HoldsIndex}
+use Rattle.index_tree.specs.block_view.declared.fault.ViewFault.{ViewFault}
 use Rattle.index_plan.specs.declared.fault.ReadFault.{ReadFault}
 use Rattle.index_plan.specs.declared.fault.ReadFault.TheVariants as reading
 use Rattle.index_plan.specs.Faults.{ReadFails, read_cause}

@@ -5,14 +5,14 @@ use Rattle.std.specs.List.{slice_get}
 use Rattle.std.proofs.Math.Seq.{take-append_seam, drop-append_seam}
 use Rattle.std.proofs.lemmas.List.{length-append, take-append-drop, get_or_append_left}
 use Rattle.std.proofs.lemmas.Option.{slice_get_within, slice_get-get_or, get_or_from_slice_get}
-use Rattle.disk_model.specs.declared.block.Block.{Block}
-use Rattle.disk_model.specs.Content.{Content, HasSizes}
+use Rattle.record_model.specs.disk_model.declared.block.Block.{Block}
+use Rattle.record_model.specs.disk_model.Content.{Content, HasSizes}
 use Rattle.record_model.specs.declared.entry.Entry.{Entry as Raw}
 use Rattle.record_model.specs.Values.{is_file_name}
-use Rattle.index_model.specs.declared.key.Key.{Key}
-use Rattle.index_model.specs.Trees.{Tree, Leaf, Down, Entry, DownEntry, walk, held, times, raws_of, Stands}
-use Rattle.index_model.specs.Indexes.{Place, number_of, node_block, node_of_body, node_of_part, node_of_block, nodes_of, some_entries, links_of}
-use Rattle.index_model.specs.Laws.{HoldsIndex}
+use Rattle.index_tree.specs.index_model.declared.key.Key.{Key}
+use Rattle.index_tree.specs.index_model.Trees.{Tree, Leaf, Down, Entry, DownEntry, walk, held, times, raws_of, Stands}
+use Rattle.index_tree.specs.index_model.Indexes.{Place, number_of, node_block, node_of_body, node_of_part, node_of_block, nodes_of, some_entries, links_of}
+use Rattle.index_tree.specs.index_model.Laws.{HoldsIndex}
 use Rattle.index_plan.specs.declared.plan.Rooted.{Rooted}
 use Rattle.index_plan.specs.declared.write.Write.{Write}
 use Rattle.index_plan.specs.Laws.{NewTree, Once}

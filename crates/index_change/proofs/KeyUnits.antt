@@ -2,8 +2,8 @@
 use Rattle.std.proofs.Common.{◌≡◌, true, ℕ, ◌+◌, ◌*◌, List, length, drop, refl, ◌∙◌}
 use Rattle.std.proofs.lemmas.List.FromFn.{fill_by_all}
 use Rattle.byteorder.specs.Endian.{IsRead, little_number}
-use Rattle.disk_model.specs.Numbers.{field}
-use Rattle.disk_model.proofs.Fields.{field-drop}
+use Rattle.record_model.specs.disk_model.Numbers.{field}
+use Rattle.index_node.proofs.disk_model.Fields.{field-drop}
 use Rattle.record_model.specs.Attributes.{units_at}
 use Rattle.record_model.specs.Values.{is_file_name}
 use Rattle.record_model.proofs.FileNames.{lawful_parts}

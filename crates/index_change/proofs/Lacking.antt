@@ -4,12 +4,12 @@ use Rattle.std.specs.List.{cons_option}
 use Rattle.std.specs.Cmp.{upto}
 use Rattle.std.specs.Ordering.{is_gt}
 use Rattle.std.proofs.lemmas.Bool.{and_parts, not-true}
-use Rattle.file_tree.specs.declared.link.Link.{Link}
-use Rattle.file_tree.specs.Names.{name_order}
-use Rattle.file_tree.proofs.NameOrders.{name_order_total}
-use Rattle.index_model.specs.declared.key.Key.{Key}
-use Rattle.index_model.specs.Indexes.{key_link, links_of, precedes, rises}
-use Rattle.state_model.specs.Rules.{same_link}
+use Rattle.index_tree.specs.file_tree.declared.link.Link.{Link}
+use Rattle.index_tree.specs.file_tree.Names.{name_order}
+use Rattle.index_tree.proofs.file_tree.NameOrders.{name_order_total}
+use Rattle.index_tree.specs.index_model.declared.key.Key.{Key}
+use Rattle.index_tree.specs.index_model.Indexes.{key_link, links_of, precedes, rises}
+use Rattle.index_tree.specs.state_model.Rules.{same_link}
 use Rattle.index_change.specs.Orders.{link_of, has_link}
 use Rattle.index_change.proofs.Lawful.{AreNames, key_link_is}
 use Rattle.index_change.proofs.Lookups.{same_link_is}

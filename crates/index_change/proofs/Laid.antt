@@ -4,26 +4,26 @@ use Rattle.std.specs.Prelude.{reverse, nat_eq, nat_le, nat_lt, ◌==◌, if◌th
 use Rattle.std.specs.List.{list_all, range_with_len}
 use Rattle.std.proofs.lemmas.List.{reverse-append}
 use Rattle.std.proofs.lemmas.Bool.{cases_eq, eqb-true, eq-eqb, ne_eqb, le-leb, lt-ltb}
-use Rattle.host_base.specs.Answers.{◌>>=◌, needs}
-use Rattle.disk_model.specs.declared.block.Block.{Block}
-use Rattle.disk_model.specs.declared.block.Change.{Change}
-use Rattle.disk_model.specs.declared.block.BlockKind.{BlockKind}
-use Rattle.disk_model.specs.declared.block.BlockKind.TheVariants.{Plain, FileRec, Index}
-use Rattle.disk_model.specs.Numbers.{field}
-use Rattle.disk_model.specs.Bodies.{BodyOf}
-use Rattle.disk_model.specs.Bytes.{written}
-use Rattle.disk_model.specs.Sectors.{same_block, same_kind, sectors}
-use Rattle.disk_model.specs.Content.{Content, HasSizes, is_signed}
-use Rattle.disk_model.specs.Writes.{Write as Put, bytes_after, is_covered, cover_all}
-use Rattle.disk_model.proofs.Frames.{same_block-is}
-use Rattle.block_view.specs.Changes.{write_of, writes_of, content_after}
+use Rattle.index_tree.specs.host_base.Answers.{◌>>=◌, needs}
+use Rattle.record_model.specs.disk_model.declared.block.Block.{Block}
+use Rattle.record_model.specs.disk_model.declared.block.Change.{Change}
+use Rattle.record_model.specs.disk_model.declared.block.BlockKind.{BlockKind}
+use Rattle.record_model.specs.disk_model.declared.block.BlockKind.TheVariants.{Plain, FileRec, Index}
+use Rattle.record_model.specs.disk_model.Numbers.{field}
+use Rattle.record_model.specs.disk_model.Bodies.{BodyOf}
+use Rattle.record_model.specs.disk_model.Bytes.{written}
+use Rattle.record_model.specs.disk_model.Sectors.{same_block, same_kind, sectors}
+use Rattle.record_model.specs.disk_model.Content.{Content, HasSizes, is_signed}
+use Rattle.record_model.specs.disk_model.Writes.{Write as Put, bytes_after, is_covered, cover_all}
+use Rattle.index_node.proofs.disk_model.Frames.{same_block-is}
+use Rattle.index_tree.specs.block_view.Changes.{write_of, writes_of, content_after}
 use Rattle.record_model.specs.declared.entry.Entry.{Entry as Raw}
 use Rattle.record_model.specs.Nodes.{Node, node_at, node_spelling, FitsNode}
 use Rattle.record_model.proofs.NodeSpelling.{node_signed, length-node_spelling, node_spells}
 use Rattle.record_model.proofs.NodeTables.{ok_from_node}
 use Rattle.index_node.proofs.Placing.{all_put}
 use Rattle.index_node.specs.Roots.{new_node}
-use Rattle.index_model.specs.Indexes.{Place, node_block, entries_of_node, is_index_body, node_of_body, node_of_part, node_of_block, nodes_of, some_entries}
+use Rattle.index_tree.specs.index_model.Indexes.{Place, node_block, entries_of_node, is_index_body, node_of_body, node_of_part, node_of_block, nodes_of, some_entries}
 use Rattle.index_plan.specs.declared.write.Write.{Write}
 use Rattle.index_plan.specs.Paths.{chosen, over}
 use Rattle.index_change.specs.Changing.{IsLaidOut, PutsNode, PutNodes}

@@ -2,21 +2,21 @@
 use Rattle.std.proofs.Common.{◌≡◌, ℕ, Bool, true, false, List, [], ◌∷◌, ◌++◌, Option, Some, None, Result, Ok, Err, refl, ap, subst}
 use Rattle.std.specs.Prelude.{◌==◌, if◌then◌else◌}
 use Rattle.std.specs.List.{AllByRecursion}
-use Rattle.host_base.specs.Answers.{◌>>=◌, needs}
-use Rattle.disk_model.specs.declared.block.Block.{Block}
-use Rattle.disk_model.specs.Numbers.{field}
-use Rattle.disk_model.specs.Bodies.{BodyOf}
-use Rattle.disk_model.specs.Content.{Content}
+use Rattle.index_tree.specs.host_base.Answers.{◌>>=◌, needs}
+use Rattle.record_model.specs.disk_model.declared.block.Block.{Block}
+use Rattle.record_model.specs.disk_model.Numbers.{field}
+use Rattle.record_model.specs.disk_model.Bodies.{BodyOf}
+use Rattle.record_model.specs.disk_model.Content.{Content}
 use Rattle.record_model.specs.declared.entry.Entry.{Entry as Raw}
 use Rattle.record_model.specs.StdValues.{file_name_of, file_name_fields, file_name_fault}
 use Rattle.record_model.specs.Values.{is_file_name, units_of}
 use Rattle.record_model.specs.Nodes.{Node, node_at, root_at, SpellEntries}
 use Rattle.record_model.proofs.NodeTables.{node_from_ok, root_from_ok}
-use Rattle.index_model.specs.declared.key.Key.{Key}
-use Rattle.index_model.specs.Trees.{Tree, Leaf, Down, Entry, DownEntry, walk, raw, raws_of, Stands}
-use Rattle.index_model.specs.Indexes.{Place, node_block, entries_of_node, is_index_body, node_of_body, node_of_part, node_of_block, nodes_of, some_entries, key_link}
-use Rattle.state_model.specs.Files.{named}
-use Rattle.index_model.specs.Laws.{HoldsIndex}
+use Rattle.index_tree.specs.index_model.declared.key.Key.{Key}
+use Rattle.index_tree.specs.index_model.Trees.{Tree, Leaf, Down, Entry, DownEntry, walk, raw, raws_of, Stands}
+use Rattle.index_tree.specs.index_model.Indexes.{Place, node_block, entries_of_node, is_index_body, node_of_body, node_of_part, node_of_block, nodes_of, some_entries, key_link}
+use Rattle.index_tree.specs.state_model.Files.{named}
+use Rattle.index_tree.specs.index_model.Laws.{HoldsIndex}
 use Rattle.index_change.specs.Orders.{link_of}
 
 -- each entry before the last has a file-name value as key

@@ -1,3 +1,7 @@
+pub use Rattle.index_plan.proofs as index_plan
+pub use Rattle.index_tree.proofs.index_model
+pub use Rattle.index_tree.proofs.stream_map
+pub use Rattle.record_model.proofs as record_model
 pub mod KeyUnits
 pub mod Held
 pub mod Gathered

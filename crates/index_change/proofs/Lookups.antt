@@ -6,17 +6,17 @@ use Rattle.std.specs.Cmp.Lexicographic.{bytes_decides}
 use Rattle.std.specs.declared.cmp.Ordering.{Ordering}
 use Rattle.std.specs.declared.cmp.Ordering.TheVariants.{Less, Equal, Greater}
 use Rattle.std.proofs.lemmas.Bool.{and_parts, eqb-true}
-use Rattle.host_base.specs.declared.file_ref.FileRef.{FileRef}
-use Rattle.host_base.specs.FileRefs.{same_reference}
+use Rattle.index_tree.specs.host_base.declared.file_ref.FileRef.{FileRef}
+use Rattle.index_tree.specs.host_base.FileRefs.{same_reference}
 use Rattle.record_model.specs.Values.{is_file_name, parent_of, space_of, units_of}
-use Rattle.file_tree.specs.declared.link.Link.{Link}
-use Rattle.file_tree.specs.Names.{name_order, same_units}
-use Rattle.upcase_order.proofs.NameLaws.{equal_units, equal_same, units_equal}
-use Rattle.index_model.specs.declared.key.Key.{Key}
+use Rattle.index_tree.specs.file_tree.declared.link.Link.{Link}
+use Rattle.index_tree.specs.file_tree.Names.{name_order, same_units}
+use Rattle.index_tree.proofs.upcase_order.NameLaws.{equal_units, equal_same, units_equal}
+use Rattle.index_tree.specs.index_model.declared.key.Key.{Key}
 use Rattle.index_plan.specs.declared.side.KeySide.{KeySide}
 use Rattle.index_plan.specs.declared.side.KeySide.TheVariants as sides
 use Rattle.index_tree.specs.Calls.{is_sought}
-use Rattle.state_model.specs.Rules.{same_link}
+use Rattle.index_tree.specs.state_model.Rules.{same_link}
 use Rattle.index_change.specs.Orders.{link_of, is_entry_of, stands_by, stands, has_link}
 
 ref_of : ℕ → ℕ → FileRef

@@ -2,19 +2,19 @@
 use Rattle.std.proofs.Common.{◌≡◌, ℕ, suc, ◌+◌, ◌<◌, ◌≤◌, Bool, true, List, [], ◌∷◌, length, Option, Some, Result, Ok, Err, refl, sym, ap, ◌∙◌, ◌⊎◌, inl, inr, arith}
 use Rattle.std.specs.Prelude.{reverse, nat_eq}
 use Rattle.std.proofs.lemmas.List.{length-append, length-reverse, length-take}
-use Rattle.disk_model.specs.declared.block.Change.{Change}
-use Rattle.disk_model.specs.Content.{Content, HasSizes}
-use Rattle.block_view.specs.Changes.{content_after}
+use Rattle.record_model.specs.disk_model.declared.block.Change.{Change}
+use Rattle.record_model.specs.disk_model.Content.{Content, HasSizes}
+use Rattle.index_tree.specs.block_view.Changes.{content_after}
 use Rattle.record_model.specs.declared.entry.Entry.{Entry as Raw}
 use Rattle.record_model.specs.Nodes.{root_at, last_entry}
 use Rattle.record_model.specs.Values.{is_file_name}
-use Rattle.file_tree.specs.declared.link.Link.{Link}
-use Rattle.index_model.specs.declared.key.Key.{Key}
-use Rattle.index_model.specs.Trees.{Tree, Leaf, Down, Entry, DownEntry, walk, held, times, levels, one_if, raws_of, Stands}
-use Rattle.index_model.specs.Indexes.{Place, node_of_block, nodes_of, some_entries, links_of, rises}
-use Rattle.index_model.specs.Walks.{Broken}
-use Rattle.index_model.specs.Laws.{HoldsIndex}
-use Rattle.index_model.proofs.WalkLaw.{walk_passes}
+use Rattle.index_tree.specs.file_tree.declared.link.Link.{Link}
+use Rattle.index_tree.specs.index_model.declared.key.Key.{Key}
+use Rattle.index_tree.specs.index_model.Trees.{Tree, Leaf, Down, Entry, DownEntry, walk, held, times, levels, one_if, raws_of, Stands}
+use Rattle.index_tree.specs.index_model.Indexes.{Place, node_of_block, nodes_of, some_entries, links_of, rises}
+use Rattle.index_tree.specs.index_model.Walks.{Broken}
+use Rattle.index_tree.specs.index_model.Laws.{HoldsIndex}
+use Rattle.index_tree.proofs.index_model.WalkLaw.{walk_passes}
 use Rattle.index_node.proofs.RootSpelled.{root_law}
 use Rattle.index_plan.specs.declared.plan.Rooted.{Rooted}
 use Rattle.index_plan.specs.declared.write.Write.{Write}

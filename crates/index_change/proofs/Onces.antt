@@ -2,12 +2,12 @@
 use Rattle.std.proofs.Common.{◌≡◌, ℕ, ◌+◌, ◌<◌, ◌≤◌, Bool, true, false, List, [], ◌∷◌, ◌++◌, Some, refl, ap, arith}
 use Rattle.std.specs.Prelude.{reverse, nat_eq}
 use Rattle.std.proofs.lemmas.List.{reverse-append}
-use Rattle.disk_model.specs.declared.block.Block.{Block}
-use Rattle.disk_model.specs.declared.block.Change.{Change}
-use Rattle.disk_model.specs.Sectors.{same_block}
-use Rattle.disk_model.proofs.Frames.{same_block-is}
-use Rattle.index_model.specs.Trees.{times, same, one_if}
-use Rattle.index_model.specs.Indexes.{Place, node_block}
+use Rattle.record_model.specs.disk_model.declared.block.Block.{Block}
+use Rattle.record_model.specs.disk_model.declared.block.Change.{Change}
+use Rattle.record_model.specs.disk_model.Sectors.{same_block}
+use Rattle.index_node.proofs.disk_model.Frames.{same_block-is}
+use Rattle.index_tree.specs.index_model.Trees.{times, same, one_if}
+use Rattle.index_tree.specs.index_model.Indexes.{Place, node_block}
 use Rattle.index_plan.specs.declared.write.Write.{Write}
 use Rattle.index_plan.specs.Paths.{written_vcns}
 use Rattle.index_change.specs.Changing.{IsLaidOut, PutNodes, changes_in}

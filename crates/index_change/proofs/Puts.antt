@@ -1,14 +1,14 @@
 -- What a plan that puts a key in answers, over a content that may be known.
 use Rattle.std.proofs.Common.{◌≡◌, ℕ, ◌+◌, ◌<◌, ◌≤◌, Bool, true, false, List, [], length, Option, Some, None, Ok, Err, refl, sym, ◌∙◌, subst, ◌⊎◌, inl, inr, arith}
 use Rattle.std.specs.Prelude.{IfSome, IsTrue}
-use Rattle.disk_model.specs.Content.{Content}
+use Rattle.record_model.specs.disk_model.Content.{Content}
 use Rattle.record_model.specs.declared.entry.Entry.{Entry as Raw}
 use Rattle.record_model.specs.Nodes.{root_at}
 use Rattle.record_model.specs.Values.{is_file_name}
-use Rattle.index_model.specs.declared.key.Key.{Key}
-use Rattle.index_model.specs.Trees.{Tree, walk, levels, one_if}
-use Rattle.index_model.specs.Indexes.{Place, node_of_block}
-use Rattle.index_model.specs.Laws.{HoldsIndex}
+use Rattle.index_tree.specs.index_model.declared.key.Key.{Key}
+use Rattle.index_tree.specs.index_model.Trees.{Tree, walk, levels, one_if}
+use Rattle.index_tree.specs.index_model.Indexes.{Place, node_of_block}
+use Rattle.index_tree.specs.index_model.Laws.{HoldsIndex}
 use Rattle.index_plan.specs.declared.plan.Rooted.{Rooted}
 use Rattle.index_plan.specs.Reading.{nodes_of}
 use Rattle.index_plan.specs.Laws.{InsertsInto, LevelFits, NeedsLevel, NewTree, TakesFew}

@@ -8,11 +8,11 @@ use Rattle.std.specs.declared.cmp.Ordering.{Ordering}
 use Rattle.std.specs.declared.cmp.Ordering.TheVariants.{Less, Equal, Greater}
 use Rattle.std.proofs.lemmas.Bool.{and_parts, both_ways, not-true}
 use Rattle.record_model.specs.Values.{is_file_name, units_of}
-use Rattle.file_tree.specs.declared.link.Link.{Link}
-use Rattle.file_tree.specs.Names.{name_order, comes_before}
-use Rattle.file_tree.proofs.NameOrders.{name_order_total}
-use Rattle.index_model.specs.declared.key.Key.{Key}
-use Rattle.index_model.specs.Indexes.{key_link, links_of, precedes, rises}
+use Rattle.index_tree.specs.file_tree.declared.link.Link.{Link}
+use Rattle.index_tree.specs.file_tree.Names.{name_order, comes_before}
+use Rattle.index_tree.proofs.file_tree.NameOrders.{name_order_total}
+use Rattle.index_tree.specs.index_model.declared.key.Key.{Key}
+use Rattle.index_tree.specs.index_model.Indexes.{key_link, links_of, precedes, rises}
 use Rattle.index_plan.specs.Search.{put, GoesAll, Rises}
 use Rattle.index_change.specs.Orders.{goes, link_of, put_link}
 use Rattle.index_change.proofs.Lawful.{AreNames, link_name, key_link_is}

@@ -1,12 +1,12 @@
 -- The index after a plan of one level more.
 use Rattle.std.proofs.Common.{◌≡◌, ℕ, ◌<◌, ◌≤◌, true, List, [], ◌∷◌, ◌++◌, append-nil, Option, Some, None, Ok, Err, refl, sym, ap, ◌∙◌, subst, arith}
 use Rattle.std.specs.Prelude.{IfSome}
-use Rattle.disk_model.specs.Content.{Content, HasSizes}
+use Rattle.record_model.specs.disk_model.Content.{Content, HasSizes}
 use Rattle.record_model.specs.declared.entry.Entry.{Entry as Raw}
 use Rattle.record_model.specs.Nodes.{root_at}
-use Rattle.index_model.specs.Trees.{Tree, Down, walk, levels, raws_of, Stands}
-use Rattle.index_model.specs.Indexes.{Place, node_of_block, links_of}
-use Rattle.index_model.specs.Laws.{HoldsIndex}
+use Rattle.index_tree.specs.index_model.Trees.{Tree, Down, walk, levels, raws_of, Stands}
+use Rattle.index_tree.specs.index_model.Indexes.{Place, node_of_block, links_of}
+use Rattle.index_tree.specs.index_model.Laws.{HoldsIndex}
 use Rattle.index_plan.specs.declared.plan.Rooted.{Rooted}
 use Rattle.index_plan.specs.declared.write.Write.{Write}
 use Rattle.index_plan.specs.Laws.{NewTree, Once}

@@ -4,18 +4,18 @@ use Rattle.std.specs.Prelude.{IfSome, IfOk, IfErr, IsTrue, reverse}
 use Rattle.std.specs.Option.{ForSome}
 use Rattle.std.specs.List.{filter}
 use Rattle.std.proofs.lemmas.List.{length-take}
-use Rattle.disk_model.specs.declared.block.Change.{Change}
-use Rattle.disk_model.specs.Content.{Content, HasSizes}
-use Rattle.block_view.specs.Changes.{content_after}
+use Rattle.record_model.specs.disk_model.declared.block.Change.{Change}
+use Rattle.record_model.specs.disk_model.Content.{Content, HasSizes}
+use Rattle.index_tree.specs.block_view.Changes.{content_after}
 use Rattle.record_model.specs.declared.entry.Entry.{Entry as Raw}
 use Rattle.record_model.specs.Nodes.{root_at, last_entry}
-use Rattle.file_tree.specs.declared.link.Link.{Link}
-use Rattle.index_model.specs.Trees.{Tree, Leaf, walk, times, levels, one_if}
-use Rattle.index_model.specs.Indexes.{Place, node_of_block, links_of, rises}
-use Rattle.index_model.specs.Walks.{Broken}
-use Rattle.index_model.specs.Laws.{HoldsIndex}
-use Rattle.index_model.proofs.Complete.{some_levels}
-use Rattle.index_model.proofs.WalkLaw.{walk_passes}
+use Rattle.index_tree.specs.file_tree.declared.link.Link.{Link}
+use Rattle.index_tree.specs.index_model.Trees.{Tree, Leaf, walk, times, levels, one_if}
+use Rattle.index_tree.specs.index_model.Indexes.{Place, node_of_block, links_of, rises}
+use Rattle.index_tree.specs.index_model.Walks.{Broken}
+use Rattle.index_tree.specs.index_model.Laws.{HoldsIndex}
+use Rattle.index_tree.proofs.index_model.Complete.{some_levels}
+use Rattle.index_tree.proofs.index_model.WalkLaw.{walk_passes}
 use Rattle.index_node.proofs.RootSpelled.{root_law}
 use Rattle.index_plan.specs.declared.plan.Rooted.{Rooted}
 use Rattle.index_plan.specs.Laws.{Once, RemovesFrom, TakesFewOut, full_without, NeedsLevelWithout as NeedsWithout}

@@ -1,14 +1,14 @@
 -- What a plan says of the search before it.
 use Rattle.std.proofs.Common.{◌≡◌, ℕ, List, Option, Some, None, Result, Ok, Err, refl, sym, subst}
 use Rattle.std.specs.Prelude.{IfSome, IfErr}
-use Rattle.host_base.specs.Answers.{ExplainsOrFails}
-use Rattle.host_base.proofs.Known.{one}
-use Rattle.disk_model.specs.Content.{Content}
-use Rattle.index_model.specs.Walks.{Broken}
+use Rattle.index_tree.specs.host_base.Answers.{ExplainsOrFails}
+use Rattle.index_tree.proofs.host_base.Known.{one}
+use Rattle.record_model.specs.disk_model.Content.{Content}
+use Rattle.index_tree.specs.index_model.Walks.{Broken}
 use Rattle.index_tree.specs.declared.fault.TreeFault.{TreeFault}
 use Rattle.index_tree.specs.declared.fault.TreeFault.TheVariants.{Node, Present, Absent, Deep, View}
 use Rattle.index_tree.specs.Faults.{tree_cause}
-use Rattle.file_tree.specs.declared.link.Link.{Link}
+use Rattle.index_tree.specs.file_tree.declared.link.Link.{Link}
 use Rattle.index_change.specs.Faults.{AfterFind, DeepAfterWalk, IsOfView}
 
 broken_of : ℕ → ℕ → Broken

@@ -6,19 +6,19 @@ use Rattle.std.proofs.lemmas.Bool.{and_parts, eqb-true}
 use Rattle.std.proofs.lemmas.Bool.Decides.{nat_tests}
 use Rattle.std.proofs.lemmas.List.{length-take}
 use Rattle.std.proofs.lemmas.List.Sums.{sum_by-cons}
-use Rattle.host_base.specs.Answers.{◌>>=◌, needs}
-use Rattle.utf16_name.specs.Names.{fault_of, ok_unless, is_bad_unit}
-use Rattle.disk_model.specs.declared.block.Block.{Block}
-use Rattle.disk_model.specs.Bodies.{BodyOf}
-use Rattle.disk_model.specs.Content.{Content}
-use Rattle.disk_model.specs.Numbers.{field}
+use Rattle.index_tree.specs.host_base.Answers.{◌>>=◌, needs}
+use Rattle.record_model.specs.utf16_name.Names.{fault_of, ok_unless, is_bad_unit}
+use Rattle.record_model.specs.disk_model.declared.block.Block.{Block}
+use Rattle.record_model.specs.disk_model.Bodies.{BodyOf}
+use Rattle.record_model.specs.disk_model.Content.{Content}
+use Rattle.record_model.specs.disk_model.Numbers.{field}
 use Rattle.record_model.specs.declared.entry.Entry.{Entry as Raw}
 use Rattle.record_model.specs.Nodes.{Node, node_at, root_at, child_flag, entry_length, entries_length, down_flag, first_entry, used_end, entry_bytes, SpellsDown, SpellsEntry, SpellsLast, SpellEntries, HoldsEntries, last_entry}
 use Rattle.record_model.specs.Values.{is_file_name, units_of}
 use Rattle.record_model.proofs.Attributes.{length-units_at}
 use Rattle.record_model.proofs.FileNames.{lawful_parts}
 use Rattle.record_model.proofs.NodeTables.{node_from_ok, root_from_ok}
-use Rattle.index_model.specs.Indexes.{Place, node_block, entries_of_node, is_index_body, node_of_body, node_of_part, node_of_block}
+use Rattle.index_tree.specs.index_model.Indexes.{Place, node_block, entries_of_node, is_index_body, node_of_body, node_of_part, node_of_block}
 use Rattle.index_plan.specs.Growth.{fits_in}
 use Rattle.index_plan.specs.Room.{IsShort, HasKeys, Sized}
 use Rattle.index_plan.proofs.Halves.{fits_bytes}

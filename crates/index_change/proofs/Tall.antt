@@ -1,12 +1,12 @@
 -- The levels that are counted are those of the tree.
 use Rattle.std.proofs.Common.{◌≡◌, ℕ, zero, suc, ◌≤◌, List, Some, Result, Ok, sym, ap, ◌∙◌, arith}
-use Rattle.disk_model.specs.Content.{Content}
+use Rattle.record_model.specs.disk_model.Content.{Content}
 use Rattle.record_model.specs.declared.entry.Entry.{Entry as Raw}
 use Rattle.record_model.specs.Nodes.{root_at}
-use Rattle.index_model.specs.Trees.{Tree, Leaf, Down, Entry, DownEntry, levels, raws_of, Stands}
-use Rattle.index_model.specs.Indexes.{Place, node_of_block, nodes_of}
-use Rattle.index_model.specs.Laws.{HoldsIndex}
-use Rattle.index_model.proofs.Complete.{some_levels}
+use Rattle.index_tree.specs.index_model.Trees.{Tree, Leaf, Down, Entry, DownEntry, levels, raws_of, Stands}
+use Rattle.index_tree.specs.index_model.Indexes.{Place, node_of_block, nodes_of}
+use Rattle.index_tree.specs.index_model.Laws.{HoldsIndex}
+use Rattle.index_tree.proofs.index_model.Complete.{some_levels}
 use Rattle.index_change.specs.Heights.{tallest, if_read, height_below, height_of}
 use Rattle.index_change.proofs.Lawful.{some_read}
 

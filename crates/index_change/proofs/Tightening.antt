@@ -4,17 +4,17 @@ use Rattle.std.specs.Prelude.{IsTrue, insert, if◌then◌else◌}
 use Rattle.std.proofs.lemmas.Bool.Decides.{leb_tells}
 use Rattle.std.proofs.lemmas.List.{length-take}
 use Rattle.std.proofs.lemmas.List.Elements.{All-nil, All-cons}
-use Rattle.disk_model.specs.Content.{Content}
+use Rattle.record_model.specs.disk_model.Content.{Content}
 use Rattle.record_model.specs.declared.entry.Entry.{Entry as Raw}
 use Rattle.record_model.specs.Nodes.{root_at, entry_length, entries_length}
 use Rattle.record_model.specs.Values.{is_file_name}
-use Rattle.file_tree.specs.declared.link.Link.{Link}
-use Rattle.index_model.specs.declared.key.Key.{Key}
-use Rattle.index_model.specs.Trees.{Tree, Leaf, Down, Entry, DownEntry, walk, levels, one_if, raw, raws_of, Stands}
-use Rattle.index_model.specs.Indexes.{Place as Region, node_of_block, nodes_of}
-use Rattle.index_model.specs.Laws.{HoldsIndex}
-use Rattle.index_model.proofs.Complete.{some_levels}
-use Rattle.index_model.specs.Walks.{root_vcn}
+use Rattle.index_tree.specs.file_tree.declared.link.Link.{Link}
+use Rattle.index_tree.specs.index_model.declared.key.Key.{Key}
+use Rattle.index_tree.specs.index_model.Trees.{Tree, Leaf, Down, Entry, DownEntry, walk, levels, one_if, raw, raws_of, Stands}
+use Rattle.index_tree.specs.index_model.Indexes.{Place as Region, node_of_block, nodes_of}
+use Rattle.index_tree.specs.index_model.Laws.{HoldsIndex}
+use Rattle.index_tree.proofs.index_model.Complete.{some_levels}
+use Rattle.index_tree.specs.index_model.Walks.{root_vcn}
 use Rattle.index_plan.specs.declared.write.Write.{Write}
 use Rattle.index_plan.specs.Paths.{Path, Here, Below, Behind, subtree}
 use Rattle.index_plan.specs.Plans.{Plan, Spot}

@@ -1,14 +1,14 @@
 -- Changes that put nodes into their blocks.
 use Rattle.std.specs.Prelude.{◌≡◌, ◌*◌, ◌+◌, ◌<◌, ◌≤◌, ℕ, List, [], ◌∷◌, length, Some}
-use Rattle.disk_model.specs.declared.block.Block.{Block}
-use Rattle.disk_model.specs.declared.block.BlockKind.TheVariants.{Index}
+use Rattle.record_model.specs.disk_model.declared.block.Block.{Block}
+use Rattle.record_model.specs.disk_model.declared.block.BlockKind.TheVariants.{Index}
 use Rattle.std.specs.List.{AllByRecursion}
-use Rattle.disk_model.specs.declared.block.Change.{Change}
-use Rattle.disk_model.specs.Content.{Content}
-use Rattle.disk_model.specs.Sectors.{same_block, sectors}
+use Rattle.record_model.specs.disk_model.declared.block.Change.{Change}
+use Rattle.record_model.specs.disk_model.Content.{Content}
+use Rattle.record_model.specs.disk_model.Sectors.{same_block, sectors}
 use Rattle.record_model.specs.Nodes.{node_spelling, FitsNode}
-use Rattle.index_model.specs.Trees.{Tree, held, times, one_if}
-use Rattle.index_model.specs.Indexes.{Place, node_block}
+use Rattle.index_tree.specs.index_model.Trees.{Tree, held, times, one_if}
+use Rattle.index_tree.specs.index_model.Indexes.{Place, node_block}
 use Rattle.index_node.specs.Roots.{new_node}
 use Rattle.index_plan.specs.declared.write.Write.{Write}
 

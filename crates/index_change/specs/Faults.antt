@@ -1,10 +1,10 @@
 -- Where an error of a plan comes from.
 use Rattle.std.specs.Prelude.{◌≡◌, ℕ, ◌≤◌, ⊤, Result, Ok, Err, IfErr, OnOk}
-use Rattle.host_base.specs.Causes.{CountsCause}
+use Rattle.index_tree.specs.host_base.Causes.{CountsCause}
 use Rattle.index_tree.specs.declared.fault.TreeFault.{TreeFault}
 use Rattle.index_tree.specs.declared.fault.TreeFault.TheVariants.{Node, Present, Absent, Deep, View}
 use Rattle.index_tree.specs.Faults.{view_cause}
-use Rattle.index_model.specs.Walks.{Broken}
+use Rattle.index_tree.specs.index_model.Walks.{Broken}
 
 -- the error is of a view, or want of memory
 abbrev pub IsOfView : TreeFault → Type 0

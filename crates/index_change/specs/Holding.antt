@@ -4,8 +4,8 @@ use Rattle.std.specs.Ordering.{nat_cmp}
 use Rattle.std.specs.BTreeMap.{BTreeMap, get}
 use Rattle.record_model.specs.Nodes.{Node}
 use Rattle.record_model.specs.declared.entry.Entry.{Entry}
-use Rattle.index_model.specs.Walks.{Event}
-use Rattle.index_model.specs.Breaks.{HasMet}
+use Rattle.index_tree.specs.index_model.Walks.{Event}
+use Rattle.index_tree.specs.index_model.Breaks.{HasMet}
 use Rattle.index_plan.specs.Reading.{NodeReads}
 
 -- each node that is held is read so

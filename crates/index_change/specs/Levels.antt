@@ -1,11 +1,11 @@
 -- What a plan of one level more is.
 use Rattle.std.specs.Prelude.{◌≡◌, ◌≤◌, ℕ, ⊤, true, List, [], ◌∷◌, length, Option, Some, None, Result, Ok, Err}
-use Rattle.disk_model.specs.Content.{Content}
+use Rattle.record_model.specs.disk_model.Content.{Content}
 use Rattle.record_model.specs.declared.entry.Entry.{Entry as Raw}
-use Rattle.index_model.specs.Trees.{Tree, walk, levels, raws_of}
-use Rattle.index_model.specs.Indexes.{Place, links_of}
-use Rattle.index_model.specs.Breaks.{BreaksWalk}
-use Rattle.index_model.specs.Laws.{HoldsIndex}
+use Rattle.index_tree.specs.index_model.Trees.{Tree, walk, levels, raws_of}
+use Rattle.index_tree.specs.index_model.Indexes.{Place, links_of}
+use Rattle.index_tree.specs.index_model.Breaks.{BreaksWalk}
+use Rattle.index_tree.specs.index_model.Laws.{HoldsIndex}
 use Rattle.index_plan.specs.Laws.{Once}
 use Rattle.index_node.specs.Roots.{HaveSpelling}
 use Rattle.index_tree.specs.declared.fault.TreeFault.{TreeFault}

@@ -1,14 +1,14 @@
 -- Plans of an index's nodes, which are made over one content and place and may be laid out over others.
 use Rattle.std.specs.Prelude.{◌≡◌, ◌+◌, ◌<◌, ◌≤◌, ℕ, false, true, IsTrue, List, [], ◌++◌, length, take, drop, reverse, Some, Result, Ok, Err}
 use Rattle.std.specs.List.{slice_get}
-use Rattle.disk_model.specs.declared.block.Block.{Block}
-use Rattle.disk_model.specs.Content.{Content, HasSizes}
+use Rattle.record_model.specs.disk_model.declared.block.Block.{Block}
+use Rattle.record_model.specs.disk_model.Content.{Content, HasSizes}
 use Rattle.record_model.specs.declared.entry.Entry.{Entry as Raw}
 use Rattle.record_model.specs.Values.{is_file_name}
-use Rattle.index_model.specs.declared.key.Key.{Key}
-use Rattle.index_model.specs.Trees.{Tree, walk, levels, one_if}
-use Rattle.index_model.specs.Indexes.{Place, node_of_block, links_of}
-use Rattle.index_model.specs.Laws.{HoldsIndex}
+use Rattle.index_tree.specs.index_model.declared.key.Key.{Key}
+use Rattle.index_tree.specs.index_model.Trees.{Tree, walk, levels, one_if}
+use Rattle.index_tree.specs.index_model.Indexes.{Place, node_of_block, links_of}
+use Rattle.index_tree.specs.index_model.Laws.{HoldsIndex}
 use Rattle.index_plan.specs.declared.plan.Rooted.{Rooted}
 use Rattle.index_plan.specs.Laws.{NewTree, Once}
 use Rattle.index_plan.specs.Lists.{way}

@@ -3,13 +3,13 @@ use Rattle.std.specs.Prelude.{◌≡◌, ℕ, Bool, true, false, ◌&&◌, ◌==
 use Rattle.std.specs.List.{filter, list_any}
 use Rattle.std.specs.declared.cmp.Ordering.{Ordering}
 use Rattle.std.specs.declared.cmp.Ordering.TheVariants.{Less, Equal, Greater}
-use Rattle.host_base.specs.declared.file_ref.FileRef.{FileRef}
-use Rattle.host_base.specs.FileRefs.{same_reference}
+use Rattle.index_tree.specs.host_base.declared.file_ref.FileRef.{FileRef}
+use Rattle.index_tree.specs.host_base.FileRefs.{same_reference}
 use Rattle.record_model.specs.Values.{is_file_name, parent_of, space_of, units_of}
-use Rattle.file_tree.specs.declared.link.Link.{Link}
-use Rattle.file_tree.specs.Names.{comes_before, name_order}
-use Rattle.state_model.specs.Rules.{same_link}
-use Rattle.index_model.specs.declared.key.Key.{Key}
+use Rattle.index_tree.specs.file_tree.declared.link.Link.{Link}
+use Rattle.index_tree.specs.file_tree.Names.{comes_before, name_order}
+use Rattle.index_tree.specs.state_model.Rules.{same_link}
+use Rattle.index_tree.specs.index_model.declared.key.Key.{Key}
 use Rattle.index_plan.specs.declared.side.KeySide.{KeySide}
 use Rattle.index_plan.specs.declared.side.KeySide.TheVariants as sides
 use Rattle.index_tree.specs.Calls.{is_sought}

@@ -1,17 +1,17 @@
 -- What plans of an index are.
 use Rattle.std.specs.Prelude.{◌≡◌, ◌⊎◌, ◌+◌, ◌-◌, ◌<◌, ◌≤◌, ℕ, ⊤, Bool, false, true, IsTrue, List, [], ◌∷◌, ◌++◌, length, take, reverse, slice_index, if◌then◌else◌, Some, None, Result, Ok, Err}
-use Rattle.disk_model.specs.declared.block.Block.{Block}
-use Rattle.disk_model.specs.Bytes.{up8}
-use Rattle.disk_model.specs.Content.{Content}
-use Rattle.block_view.specs.Changes.{content_after}
-use Rattle.file_tree.specs.declared.link.Link.{Link}
-use Rattle.index_model.specs.declared.key.Key.{Key}
+use Rattle.record_model.specs.disk_model.declared.block.Block.{Block}
+use Rattle.record_model.specs.disk_model.Bytes.{up8}
+use Rattle.record_model.specs.disk_model.Content.{Content}
+use Rattle.index_tree.specs.block_view.Changes.{content_after}
+use Rattle.index_tree.specs.file_tree.declared.link.Link.{Link}
+use Rattle.index_tree.specs.index_model.declared.key.Key.{Key}
 use Rattle.record_model.specs.Nodes.{entry_length, last_entry}
-use Rattle.index_model.specs.Trees.{Tree, Leaf, Down, Entry, DownEntry, walk, held, times, levels, one_if, raw, raws_of}
-use Rattle.index_model.specs.Indexes.{Place, links_of}
-use Rattle.index_model.specs.Walks.{Broken, walk_of}
-use Rattle.index_model.specs.Breaks.{BreaksWalk, BreaksSearch}
-use Rattle.index_model.specs.Laws.{HoldsIndex}
+use Rattle.index_tree.specs.index_model.Trees.{Tree, Leaf, Down, Entry, DownEntry, walk, held, times, levels, one_if, raw, raws_of}
+use Rattle.index_tree.specs.index_model.Indexes.{Place, links_of}
+use Rattle.index_tree.specs.index_model.Walks.{Broken, walk_of}
+use Rattle.index_tree.specs.index_model.Breaks.{BreaksWalk, BreaksSearch}
+use Rattle.index_tree.specs.index_model.Laws.{HoldsIndex}
 use Rattle.index_plan.specs.declared.plan.Rooted.{Rooted}
 use Rattle.index_plan.specs.declared.write.Write.{Write}
 use Rattle.index_plan.specs.Laws.{Once, inserted_by}

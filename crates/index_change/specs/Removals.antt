@@ -1,12 +1,12 @@
 -- What plans that take a link out of an index are.
 use Rattle.std.specs.Prelude.{◌≡◌, ◌≤◌, ◌+◌, ◌<◌, ℕ, ⊤, Bool, true, false, IsTrue, List, [], ◌∷◌, ◌++◌, length, None, Result, Ok, Err}
 use Rattle.record_model.specs.Nodes.{last_entry}
-use Rattle.disk_model.specs.Content.{Content}
-use Rattle.file_tree.specs.declared.link.Link.{Link}
-use Rattle.index_model.specs.declared.key.Key.{Key}
-use Rattle.index_model.specs.Trees.{Tree, Leaf, walk, levels, one_if}
-use Rattle.index_model.specs.Indexes.{Place, links_of}
-use Rattle.index_model.specs.Laws.{HoldsIndex}
+use Rattle.record_model.specs.disk_model.Content.{Content}
+use Rattle.index_tree.specs.file_tree.declared.link.Link.{Link}
+use Rattle.index_tree.specs.index_model.declared.key.Key.{Key}
+use Rattle.index_tree.specs.index_model.Trees.{Tree, Leaf, walk, levels, one_if}
+use Rattle.index_tree.specs.index_model.Indexes.{Place, links_of}
+use Rattle.index_tree.specs.index_model.Laws.{HoldsIndex}
 use Rattle.index_plan.specs.Laws.{Once, Sought, full_without}
 use Rattle.index_plan.specs.Lists.{way}
 use Rattle.index_plan.specs.Room.{tight_count}

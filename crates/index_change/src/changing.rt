@@ -1,18 +1,16 @@
 ghost use Rattle.std.specs.Prelude.{◌≡◌, ◌≤◌, ◌*◌, ◌++◌, ◌∷◌, [], All, IfOk, IfErr, IfSome, OnOk, length};
-ghost use Rattle.block_view.specs.declared.fault.ViewFault.TheVariants.{Memory as no_memory};
-ghost use Rattle.block_view.specs.Changes.{Fits};
-ghost use Rattle.disk_model.specs.Sectors.{sectors};
+ghost use Rattle.index_tree.specs.block_view.declared.fault.ViewFault.TheVariants.{Memory as no_memory};
+ghost use Rattle.index_tree.specs.block_view.Changes.{Fits};
+ghost use Rattle.record_model.specs.disk_model.Sectors.{sectors};
 ghost use Rattle.record_model.specs.Nodes.{node_spelling, FitsNode};
 ghost use Rattle.index_node.specs.Roots.{new_node, HaveSpelling};
 ghost use Rattle.index_change.specs.Changing.{PutsNode, PutNodes, WasOld, AllWereOld};
 ghost use Rattle.index_tree.specs.Faults.{FailsAsView};
 ghost use Rattle.index_tree.specs.Places.{place_of};
 
-use block_view::{Block, Body, Change, View, ViewFault};
-use host_base::Bytes;
 use index_node::{EntryList, Node, have_spelling};
 use index_plan::Write;
-use index_tree::DirPlace;
+use index_tree::{Block, Body, Bytes, Change, DirPlace, View, ViewFault};
 use std::alloc::{AllocError, Global};
 
 // Nodes that are written, as changes of their blocks.

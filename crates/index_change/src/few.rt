@@ -1,12 +1,11 @@
 ghost use Rattle.std.specs.Prelude.{◌≡◌, ◌+◌, ◌++◌, ◌∷◌, [], ◌≤◌, ◌<◌, IfOk, IfErr, IfSome, OnOk, min};
-ghost use Rattle.block_view.specs.declared.fault.ViewFault.TheVariants.{Memory as no_memory};
-ghost use Rattle.index_model.specs.Indexes.{node_of_block};
+ghost use Rattle.index_tree.specs.block_view.declared.fault.ViewFault.TheVariants.{Memory as no_memory};
+ghost use Rattle.index_tree.specs.index_model.Indexes.{node_of_block};
 ghost use Rattle.index_tree.specs.Faults.{FailsAsView};
 ghost use Rattle.index_tree.specs.Places.{place_of};
 ghost use Rattle.index_change.specs.Amounts.{key_before, keys_in, keys_below, keys_of, blocks_in, blocks_below, blocks_of};
 
-use block_view::{View, ViewFault};
-use index_tree::{DirPlace, LEVELS_BELOW, node_if_any};
+use index_tree::{DirPlace, LEVELS_BELOW, View, ViewFault, node_if_any};
 use record_model::Entry;
 use std::alloc::{AllocError, Global};
 

@@ -1,5 +1,5 @@
 ghost use Rattle.std.specs.Prelude.{All, ◌≡◌, ◌≤◌, ◌++◌, IfOk, IfSome, length, reverse};
-ghost use Rattle.block_view.specs.Changes.{Fits};
+ghost use Rattle.index_tree.specs.block_view.Changes.{Fits};
 ghost use Rattle.index_node.specs.Roots.{root_spelling, HaveSpelling};
 ghost use Rattle.index_change.specs.Changing.{AllWereOld};
 ghost use Rattle.index_change.specs.NodePlans.{IsDrawn, LaysOut, TakesFront};
@@ -10,11 +10,9 @@ ghost use Rattle.index_change.specs.Plans.{clusters_of, seventeen, IsMade};
 use crate::changing::changes_of;
 use crate::nodes_plan::NodesPlan;
 use crate::plan::DirPlan;
-use block_view::{View, ViewFault};
-use host_base::Bytes;
 use index_node::{have_spelling, write_root};
 use index_plan::Rooted;
-use index_tree::DirPlace;
+use index_tree::{Bytes, DirPlace, View, ViewFault};
 use record_model::EntryList;
 use std::alloc::{AllocError, Global};
 

@@ -1,18 +1,17 @@
 ghost use Rattle.std.specs.Prelude.{◌≡◌, ℕ, IfOk, IfSome, OnOk};
-ghost use Rattle.index_model.specs.Indexes.{node_of_block, entry_link};
-ghost use Rattle.index_model.specs.Walks.{below, beside, entry_sought, kid_sought, root_vcn, side_of, sought_in};
+ghost use Rattle.index_tree.specs.index_model.Indexes.{node_of_block, entry_link};
+ghost use Rattle.index_tree.specs.index_model.Walks.{below, beside, entry_sought, kid_sought, root_vcn, side_of, sought_in};
 ghost use Rattle.index_change.specs.Holding.{AllHeld, HoldsNodesOf, StayHeld};
 ghost use Rattle.index_tree.specs.Places.{place_of};
 ghost use Rattle.index_tree.specs.Faults.{FailsAsView};
 
 use crate::holding::{Held, hold};
-use block_view::{View, ViewFault};
-use index_model::Side;
-use index_tree::{DirPlace, LEVELS_BELOW, entry_link, node_if_any, side_of};
+use index_tree::{
+    DirPlace, LEVELS_BELOW, Side, Upcase, View, ViewFault, entry_link, node_if_any, side_of,
+};
 use record_model::{Entry, EntryList};
 use std::alloc::Global;
 use std::collections::BTreeMap;
-use upcase_order::Upcase;
 
 // Holding of the nodes that a search for a name meets.
 

@@ -1,11 +1,10 @@
 ghost use Rattle.std.specs.Prelude.{◌≡◌, ◌+◌, ◌≤◌, ◌<◌, ◌^◌, IfOk, IfSome};
-ghost use Rattle.index_model.specs.Indexes.{node_of_block};
+ghost use Rattle.index_tree.specs.index_model.Indexes.{node_of_block};
 ghost use Rattle.index_tree.specs.Faults.{FailsAsView};
 ghost use Rattle.index_change.specs.Heights.{tallest, height_below, height_of};
 ghost use Rattle.index_tree.specs.Places.{place_of};
 
-use block_view::{View, ViewFault};
-use index_tree::{DirPlace, LEVELS_BELOW, node_if_any};
+use index_tree::{DirPlace, LEVELS_BELOW, View, ViewFault, node_if_any};
 use record_model::Entry;
 use std::alloc::Global;
 

@@ -1,16 +1,15 @@
 ghost use Rattle.std.specs.Prelude.{◌≡◌, ◌<◌, IfErr, IfOk, OnOk, Ok, length};
 ghost use Rattle.std.specs.Option.{ForSome};
-ghost use Rattle.index_model.specs.Indexes.{node_of_block};
+ghost use Rattle.index_tree.specs.index_model.Indexes.{node_of_block};
 ghost use Rattle.index_plan.specs.declared.fault.ReadFault.TheVariants.{Memory as no_memory};
 ghost use Rattle.index_plan.specs.Reading.{NodeReads};
 ghost use Rattle.index_plan.specs.Room.{Sized};
 ghost use Rattle.index_change.specs.Holding.{HoldsNodesOf, HoldsMore};
 ghost use Rattle.index_tree.specs.Places.{place_of};
 
-use block_view::View;
 use index_node::{EntryList, Node};
 use index_plan::{Nodes, ReadFault, is_sized};
-use index_tree::DirPlace;
+use index_tree::{DirPlace, View};
 use std::alloc::{AllocError, Global};
 use std::collections::BTreeMap;
 
@@ -74,7 +73,7 @@ pub struct HeldNodes<'a, V: View> {
 
 impl<'a, V: View> Nodes for HeldNodes<'a, V> {
     ghost use Rattle.std.specs.Option.{option_map};
-    ghost use Rattle.index_model.specs.Indexes.{node_of_block};
+    ghost use Rattle.index_tree.specs.index_model.Indexes.{node_of_block};
     ghost use Rattle.index_tree.specs.Places.{place_of};
 
     ghost reads = { λ n. option_map (λ c. node_of_block c (place_of n.dir.now)) (V.content n.v.now) };

@@ -1,10 +1,10 @@
 ghost use Rattle.std.specs.Prelude.{All, ◌≡◌, ◌<◌, ◌≤◌, ◌↔◌, IfErr, IfOk, IfSome, Ok, [], true, length, reverse};
 ghost use Rattle.std.specs.Option.{ForSome};
-ghost use Rattle.block_view.specs.Changes.{Fits};
+ghost use Rattle.index_tree.specs.block_view.Changes.{Fits};
 ghost use Rattle.record_model.specs.Nodes.{root_at};
 ghost use Rattle.record_model.specs.Values.{is_file_name};
-ghost use Rattle.index_model.specs.Indexes.{node_of_block};
-ghost use Rattle.index_model.specs.Walks.{find_of, walk_of};
+ghost use Rattle.index_tree.specs.index_model.Indexes.{node_of_block};
+ghost use Rattle.index_tree.specs.index_model.Walks.{find_of, walk_of};
 ghost use Rattle.index_plan.specs.Faults.{OnDeep};
 ghost use Rattle.index_plan.specs.Laws.{InsertsInto, LevelFits, NeedsLevel, TakesFew};
 ghost use Rattle.index_plan.specs.Lists.{own_key};
@@ -26,15 +26,13 @@ use crate::holding::{Held, HeldNodes, copy_of};
 use crate::naming::Before;
 use crate::nodes_plan::NodesPlan;
 use crate::plan::DirPlan;
-use block_view::{View, ViewFault};
-use file_tree::Link;
-use host_base::FileRef;
-use index_model::Key;
 use index_plan::{Draft, PlanFault, Rooted};
-use index_tree::{DirPlace, TreeFault, entry_link, find, read_root, walk};
+use index_tree::{
+    DirPlace, FileRef, Key, Link, TreeFault, Upcase, View, ViewFault, entry_link, find, read_root,
+    walk,
+};
 use record_model::{Entry, EntryList};
 use std::alloc::{AllocError, Global};
-use upcase_order::Upcase;
 
 // Plans that put an entry into an index.
 

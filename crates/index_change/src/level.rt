@@ -1,8 +1,8 @@
 ghost use Rattle.std.specs.Prelude.{All, ◌≡◌, ◌↔◌, ◌∷◌, IfOk, IfSome, Ok, [], true};
 ghost use Rattle.std.specs.Option.{ForSome};
-ghost use Rattle.block_view.specs.Changes.{Fits};
+ghost use Rattle.index_tree.specs.block_view.Changes.{Fits};
 ghost use Rattle.record_model.specs.Nodes.{root_at};
-ghost use Rattle.index_model.specs.Walks.{walk_of};
+ghost use Rattle.index_tree.specs.index_model.Walks.{walk_of};
 ghost use Rattle.index_plan.specs.Lists.{topped};
 ghost use Rattle.index_tree.specs.Places.{place_of};
 ghost use Rattle.index_change.specs.Changing.{AllWereOld};
@@ -15,13 +15,11 @@ use crate::finishing::lay_out;
 use crate::height::height_of;
 use crate::nodes_plan::NodesPlan;
 use crate::plan::DirPlan;
-use block_view::{View, ViewFault};
 use index_node::have_spelling;
 use index_plan::Write;
-use index_tree::{DirPlace, TreeFault, walk};
+use index_tree::{DirPlace, TreeFault, Upcase, View, ViewFault, walk};
 use record_model::{EntryList, last_entry};
 use std::alloc::{AllocError, Global};
-use upcase_order::Upcase;
 
 // A level more below the root, where the record that holds the root is over for another cause than
 // a key.

@@ -20,10 +20,13 @@ mod nodes_plan;
 mod plan;
 mod removing;
 
-pub use block_view::{Block, BlockKind, Change, View, ViewFault};
 pub use finishing::lay_out;
+pub use index_node::FixedValue;
 pub use index_plan::Write;
-pub use index_tree::{BlockList, DirPlace, TreeFault};
+pub use index_tree::{
+    Block, BlockKind, BlockList, Change, DirPlace, Node, TreeFault, View, ViewFault,
+    is_attribute_of, stream_of,
+};
 pub use inserting::{plan_insert, plan_nodes};
 pub use laws::{grown_keeps, plans_join};
 pub use level::plan_level;

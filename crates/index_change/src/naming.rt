@@ -1,18 +1,15 @@
 ghost use Rattle.std.specs.Prelude.{◌≡◌, ◌+◌, ◌*◌, ◌≤◌, true, length};
 ghost use Rattle.record_model.specs.Attributes.{units_at};
 ghost use Rattle.record_model.specs.Values.{is_file_name, units_of};
-ghost use Rattle.file_tree.specs.Names.{comes_before, name_order};
+ghost use Rattle.index_tree.specs.file_tree.Names.{comes_before, name_order};
 ghost use Rattle.index_change.specs.Orders.{is_entry_of, stands_by};
 
 use byteorder::{ByteOrder, LittleEndian};
-use disk_model::{u8_at, u64_at};
-use file_tree::Link;
-use host_base::{FileRef, is_same_reference};
+use index_node::{is_file_name, u8_at, u64_at};
 use index_plan::{KeySide, Target, Test};
+use index_tree::{FileRef, Link, Upcase, is_same_reference};
 use record_model::Entry;
 use std::cmp::Ordering;
-use std_values::is_file_name;
-use upcase_order::Upcase;
 
 // Names in keys, which are compared where they stand: that takes no memory.
 

@@ -1,5 +1,4 @@
-use block_view::Change;
-use host_base::Bytes;
+use index_tree::{Bytes, Change};
 
 /// What a directory's index becomes: nothing is changed yet.
 #[derive(Drop)]

@@ -1,10 +1,10 @@
 ghost use Rattle.std.specs.Prelude.{All, ◌≡◌, ◌≤◌, ◌∷◌, IfErr, IfOk, IfSome, Ok, None, [], true, length};
 ghost use Rattle.std.specs.Option.{ForSome};
-ghost use Rattle.block_view.specs.Changes.{Fits};
+ghost use Rattle.index_tree.specs.block_view.Changes.{Fits};
 ghost use Rattle.record_model.specs.Nodes.{root_at, last_entry};
 ghost use Rattle.record_model.specs.Values.{is_file_name};
-ghost use Rattle.index_model.specs.Indexes.{node_of_block};
-ghost use Rattle.index_model.specs.Walks.{find_of, walk_of};
+ghost use Rattle.index_tree.specs.index_model.Indexes.{node_of_block};
+ghost use Rattle.index_tree.specs.index_model.Walks.{find_of, walk_of};
 ghost use Rattle.index_plan.specs.Faults.{OnDeep};
 ghost use Rattle.index_plan.specs.Laws.{NeedsLevelWithout, RemovesFrom, TakesFewOut};
 ghost use Rattle.index_plan.specs.Lists.{own_key};
@@ -27,14 +27,12 @@ use crate::height::height_of;
 use crate::holding::{Held, HeldNodes, copy_of};
 use crate::naming::Wanted;
 use crate::plan::DirPlan;
-use block_view::{View, ViewFault};
-use file_tree::Link;
 use index_plan::{Draft, Numbers, PlanFault, Rooted};
-use index_tree::{DirPlace, TreeFault, entry_link, find, walk};
+use index_tree::{
+    DirPlace, Link, TreeFault, Upcase, View, ViewFault, entry_link, find, is_same_link, walk,
+};
 use record_model::{Entry, EntryList, last_entry};
-use state_model::is_same_link;
 use std::alloc::{AllocError, Global};
-use upcase_order::Upcase;
 
 // Plans that take an entry out of an index.
 

@@ -13,8 +13,8 @@ use Rattle.draft_bits.specs.Effects.{IsKept}
 use Rattle.draft_records.specs.Records.{touch_if}
 use Rattle.draft_indexes.specs.Growing.{with_blocks}
 use Rattle.draft_indexes.proofs.Empty.{kind_of_size}
-use Rattle.plan_edits.specs.Puts.{PutsBlocks}
-use Rattle.plan_edits.proofs.Putting.{Goes, goes_behind, touches, each_turned, same_some}
+use Rattle.plan_blocks.specs.plan_edits.Puts.{PutsBlocks}
+use Rattle.plan_blocks.proofs.plan_edits.Putting.{Goes, goes_behind, touches, each_turned, same_some}
 
 -- one of so many blocks from this one on
 abbrev pub IsBlockFrom : ℕ → Extents → ℕ → ℕ → Block → Type 0

@@ -29,8 +29,8 @@ use Rattle.plan_bodies.specs.Bodies.{NewBody}
 use Rattle.plan_owners.specs.States.{Stands}
 use Rattle.plan_draft.specs.declared.touched.Touched.{Touched}
 use Rattle.plan_draft.specs.Drafts.{drafted}
-use Rattle.plan_model.proofs.Drafting.{per_is}
-use Rattle.plan_model.proofs.OneRecord.{OwnRecord, own_record}
+use Rattle.plan_blocks.proofs.plan_model.Drafting.{per_is}
+use Rattle.plan_blocks.proofs.plan_model.OneRecord.{OwnRecord, own_record}
 use Rattle.draft_bits.specs.Effects.{IsKept}
 use Rattle.draft_records.specs.Records.{fits_room, written_record}
 use Rattle.record_streams.specs.Placing.{placed_record}
@@ -39,24 +39,24 @@ use Rattle.record_values.specs.Values.{valued_attr, valued_first}
 use Rattle.resized_streams.specs.declared.resized.Resized.{Resized}
 use Rattle.resized_streams.specs.Resizing.{lengthened, with_sizes}
 use Rattle.resized_streams.proofs.Chosen.{total_chosen}
-use Rattle.draft_resized.specs.Effects.{PutsWhole}
-use Rattle.draft_resized.proofs.FileEffects.{resized_put}
+use Rattle.plan_blocks.specs.draft_resized.Effects.{PutsWhole}
+use Rattle.plan_blocks.proofs.draft_resized.FileEffects.{resized_put}
 use Rattle.draft_indexes.specs.declared.blocks.IndexBlocks.{IndexBlocks}
 use Rattle.draft_indexes.specs.Growing.{size_with, wanted_clusters, taken_for, blocks_with, bits_with, grown_file, blocks_in, with_blocks}
-use Rattle.plan_growth.specs.Streams.{MayTake}
-use Rattle.plan_growth.proofs.Choosing.{may_be_taken}
-use Rattle.plan_growth.proofs.Growing.{total-grown}
-use Rattle.plan_growth.proofs.Placed.{some_attributes}
+use Rattle.state_streams.specs.plan_growth.Streams.{MayTake}
+use Rattle.state_streams.proofs.plan_growth.Choosing.{may_be_taken}
+use Rattle.state_streams.proofs.plan_growth.Growing.{total-grown}
+use Rattle.state_streams.proofs.plan_growth.Placed.{some_attributes}
 use Rattle.state_streams.specs.Streams.{IsPlacedIn}
 use Rattle.state_streams.proofs.Lying.{sizes_are}
-use Rattle.plan_edits.specs.Edits.{IsEdit}
-use Rattle.plan_edits.specs.Moves.{EditsDraft}
-use Rattle.plan_edits.specs.Puts.{PutsBlocks}
-use Rattle.plan_edits.specs.Written.{IsInUse}
-use Rattle.plan_edits.proofs.Bitmap.{state_bitmap}
-use Rattle.plan_edits.proofs.Editing.{edit_is, used_block}
-use Rattle.plan_edits.proofs.Putting.{Goes}
-use Rattle.plan_edits.proofs.Reading.{written_read}
+use Rattle.plan_blocks.specs.plan_edits.Edits.{IsEdit}
+use Rattle.plan_blocks.specs.plan_edits.Moves.{EditsDraft}
+use Rattle.plan_blocks.specs.plan_edits.Puts.{PutsBlocks}
+use Rattle.plan_blocks.specs.plan_edits.Written.{IsInUse}
+use Rattle.plan_blocks.proofs.plan_edits.Bitmap.{state_bitmap}
+use Rattle.plan_blocks.proofs.plan_edits.Editing.{edit_is, used_block}
+use Rattle.plan_blocks.proofs.plan_edits.Putting.{Goes}
+use Rattle.plan_blocks.proofs.plan_edits.Reading.{written_read}
 use Rattle.plan_blocks.specs.Blocks.{HasNoPlace, blocks_before, blocks_behind, IsFreshBlock, SizesRise, GrowsIndex}
 use Rattle.plan_blocks.specs.Drafted.{MakesIndex, IsBegunBlock}
 use Rattle.plan_blocks.specs.Written.{MakesBlocks}

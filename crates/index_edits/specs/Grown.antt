@@ -18,14 +18,14 @@ use Rattle.plan_bodies.specs.Bodies.{NewBody}
 use Rattle.plan_owners.specs.States.{Stands}
 use Rattle.plan_draft.specs.declared.touched.Touched.{Touched}
 use Rattle.plan_draft.specs.Drafts.{drafted}
-use Rattle.plan_model.specs.Informed.{IsApart}
+use Rattle.plan_blocks.specs.plan_model.Informed.{IsApart}
 use Rattle.draft_bits.specs.Effects.{IsKept}
 use Rattle.draft_records.specs.Records.{fits_room, written_record}
 use Rattle.resized_streams.specs.declared.resized.Resized.{Resized}
 use Rattle.draft_indexes.specs.declared.blocks.IndexBlocks.{IndexBlocks}
 use Rattle.draft_indexes.specs.Growing.{size_with, wanted_clusters, taken_for, grown_file, MayGrowBlocks, GrowsBlocks}
-use Rattle.plan_edits.specs.Edits.{HasBitmap, mirror_key}
-use Rattle.plan_edits.specs.Moves.{EditsDraft}
+use Rattle.plan_blocks.specs.plan_edits.Edits.{HasBitmap, mirror_key}
+use Rattle.plan_blocks.specs.plan_edits.Moves.{EditsDraft}
 use Rattle.plan_blocks.specs.Blocks.{beside_blocks, used_stream, HasNoPlace, blocks_before, GrowsIndex}
 
 -- The blocks of a directory's index and their bitmap as a plan has them: those of its record, which has both, or of one in which a stream came

@@ -3,12 +3,12 @@ use Rattle.std.proofs.Common.{◌≡◌, ℕ, zero, suc, ◌+◌, Bool, true, fa
 use Rattle.std.specs.Prelude.{◌⊎◌, ◌&&◌, not, is_some}
 use Rattle.std.proofs.lemmas.Bool.{cases_eq}
 use Rattle.std.proofs.lemmas.List.{append_assoc}
-use Rattle.host_base.specs.Answers.{◌>>=◌, needs}
-use Rattle.disk_model.specs.declared.block.Block.{Block}
-use Rattle.disk_model.specs.Content.{Content}
-use Rattle.record_model.specs.declared.entry.Entry.{Entry}
-use Rattle.record_model.specs.Nodes.{root_at}
-use Rattle.file_tree.specs.declared.link.Link.{Link}
+use Rattle.state_model.specs.host_base.Answers.{◌>>=◌, needs}
+use Rattle.state_model.specs.disk_model.declared.block.Block.{Block}
+use Rattle.state_model.specs.disk_model.Content.{Content}
+use Rattle.state_model.specs.record_model.declared.entry.Entry.{Entry}
+use Rattle.state_model.specs.record_model.Nodes.{root_at}
+use Rattle.state_model.specs.file_tree.declared.link.Link.{Link}
 use Rattle.index_model.specs.declared.side.Side.{Side}
 use Rattle.index_model.specs.declared.side.Side.TheVariants.{Unnamed, Before, Same, Behind}
 use Rattle.index_model.specs.Trees.{one_if, same}

@@ -1,3 +1,7 @@
+pub use Rattle.state_model.proofs.disk_model
+pub use Rattle.state_model.proofs.file_tree
+pub use Rattle.state_model.proofs.host_base
+pub use Rattle.state_model.proofs.record_model
 pub mod OneTree
 pub mod Orders
 pub mod Marks

@@ -4,7 +4,7 @@ use Rattle.std.specs.Prelude.{◌&&◌, ◌==◌, not, nat_lt, slice_get, is_som
 use Rattle.std.proofs.lemmas.Bool.{and_parts, ltb-true, eqb-true, eq-eqb, ne_eqb, not-true, cases_eq}
 use Rattle.std.proofs.lemmas.List.{get_or-set_same, get_or-set_other, get_or-replicate}
 use Rattle.std.proofs.lemmas.Nat.{div-add-mod'}
-use Rattle.disk_model.specs.declared.block.Block.{Block}
+use Rattle.state_model.specs.disk_model.declared.block.Block.{Block}
 use Rattle.index_model.specs.Trees.{one_if, same}
 use Rattle.index_model.specs.Indexes.{Place, number_of, node_block}
 use Rattle.index_model.specs.Walks.{Met, is_fresh, with_mark, nothing_met}

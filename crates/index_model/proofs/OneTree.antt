@@ -1,7 +1,7 @@
 -- Nodes and a root stand for one tree at most.
 use Rattle.std.proofs.Common.{◌≡◌, ℕ, List, [], ◌∷◌, Option, Some, None, refl, sym, ap, ◌∙◌}
-use Rattle.record_model.specs.declared.entry.Entry.{Entry as Raw}
-use Rattle.record_model.specs.Nodes.{last_entry}
+use Rattle.state_model.specs.record_model.declared.entry.Entry.{Entry as Raw}
+use Rattle.state_model.specs.record_model.Nodes.{last_entry}
 use Rattle.index_model.specs.declared.key.Key.{Key}
 use Rattle.index_model.specs.Trees.{Tree, Leaf, Down, Entry, DownEntry, raw, raws_of, Stands}
 

@@ -1,7 +1,7 @@
 -- Links in the order of names.
 use Rattle.std.proofs.Common.{◌≡◌, ℕ, true, List, [], ◌∷◌, ◌++◌, refl}
 use Rattle.std.proofs.lemmas.Bool.{and_parts, and_from}
-use Rattle.file_tree.specs.declared.link.Link.{Link}
+use Rattle.state_model.specs.file_tree.declared.link.Link.{Link}
 use Rattle.index_model.specs.Indexes.{precedes, rises}
 use Rattle.index_model.specs.Walks.{final, follows}
 

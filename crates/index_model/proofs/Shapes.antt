@@ -1,17 +1,17 @@
 -- The entries of a node that is read end with a last one.
 use Rattle.std.proofs.Common.{◌≡◌, ℕ, Bool, true, false, List, [], ◌∷◌, Option, Some, None, Result, Ok, Err, refl, sym, ap, ◌∙◌, subst}
 use Rattle.std.specs.Prelude.{is_some, ◌==◌}
-use Rattle.host_base.specs.declared.file_ref.FileRef.{FileRef}
-use Rattle.host_base.specs.Answers.{◌>>=◌, needs}
-use Rattle.disk_model.specs.declared.block.Block.{Block}
-use Rattle.disk_model.specs.Numbers.{field}
-use Rattle.disk_model.specs.Bodies.{BodyOf}
-use Rattle.disk_model.specs.Content.{Content}
-use Rattle.record_model.specs.declared.entry.Entry.{Entry}
-use Rattle.record_model.specs.StdValues.{file_name_of}
-use Rattle.record_model.specs.Values.{is_file_name}
-use Rattle.record_model.specs.Nodes.{Node, no_file, node_at, root_at, SpellEntries, last_entry}
-use Rattle.record_model.proofs.NodeTables.{node_from_ok, root_from_ok}
+use Rattle.state_model.specs.host_base.declared.file_ref.FileRef.{FileRef}
+use Rattle.state_model.specs.host_base.Answers.{◌>>=◌, needs}
+use Rattle.state_model.specs.disk_model.declared.block.Block.{Block}
+use Rattle.state_model.specs.disk_model.Numbers.{field}
+use Rattle.state_model.specs.disk_model.Bodies.{BodyOf}
+use Rattle.state_model.specs.disk_model.Content.{Content}
+use Rattle.state_model.specs.record_model.declared.entry.Entry.{Entry}
+use Rattle.state_model.specs.record_model.StdValues.{file_name_of}
+use Rattle.state_model.specs.record_model.Values.{is_file_name}
+use Rattle.state_model.specs.record_model.Nodes.{Node, no_file, node_at, root_at, SpellEntries, last_entry}
+use Rattle.state_model.proofs.record_model.NodeTables.{node_from_ok, root_from_ok}
 use Rattle.index_model.specs.Indexes.{Place, node_block, entries_of_node, is_index_body, node_of_body, node_of_part, node_of_block, entry_link}
 
 -- the final entry is a last one

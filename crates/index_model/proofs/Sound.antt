@@ -4,9 +4,9 @@ use Rattle.std.specs.List.{cons_option}
 use Rattle.std.specs.Prelude.{option_to_list}
 use Rattle.std.proofs.lemmas.List.{append-nil, append_assoc}
 use Rattle.std.proofs.lemmas.List.Elements.{filter_map-append}
-use Rattle.record_model.specs.declared.entry.Entry.{Entry as Raw}
-use Rattle.record_model.specs.Nodes.{last_entry}
-use Rattle.file_tree.specs.declared.link.Link.{Link}
+use Rattle.state_model.specs.record_model.declared.entry.Entry.{Entry as Raw}
+use Rattle.state_model.specs.record_model.Nodes.{last_entry}
+use Rattle.state_model.specs.file_tree.declared.link.Link.{Link}
 use Rattle.index_model.specs.declared.key.Key.{Key}
 use Rattle.index_model.specs.Trees.{Tree, Leaf, Down, Entry, DownEntry, walk, one_if, same, held, levels as height, raw, raws_of, Stands}
 use Rattle.index_model.specs.Indexes.{Place, some_entries, nodes_of, entry_link, key_link, links_of, rises}

@@ -1,7 +1,7 @@
 -- Steps of a walk, one after the other.
 use Rattle.std.proofs.Common.{◌≡◌, ℕ, zero, suc, Bool, true, false, List, [], ◌∷◌, ◌++◌, Result, Ok, Err, refl, sym, ap, ◌∙◌}
-use Rattle.host_base.specs.Answers.{◌>>=◌, needs}
-use Rattle.record_model.specs.declared.entry.Entry.{Entry}
+use Rattle.state_model.specs.host_base.Answers.{◌>>=◌, needs}
+use Rattle.state_model.specs.record_model.declared.entry.Entry.{Entry}
 use Rattle.index_model.specs.Indexes.{Place}
 use Rattle.index_model.specs.Walks.{Broken, Event, Met, judged, all_judged, entry_met, kid_met, met_in}
 

@@ -1,11 +1,11 @@
 -- A walk passes exactly over an index.
 use Rattle.std.proofs.Common.{◌≡◌, ℕ, ◌≤◌, Bool, true, false, List, [], Option, Result, Ok, Err, refl, sym, ap, ◌∙◌, arith}
 use Rattle.std.proofs.lemmas.List.{append-nil}
-use Rattle.host_base.specs.Answers.{◌>>=◌}
-use Rattle.disk_model.specs.Content.{Content}
-use Rattle.record_model.specs.declared.entry.Entry.{Entry}
-use Rattle.record_model.specs.Nodes.{root_at}
-use Rattle.file_tree.specs.declared.link.Link.{Link}
+use Rattle.state_model.specs.host_base.Answers.{◌>>=◌}
+use Rattle.state_model.specs.disk_model.Content.{Content}
+use Rattle.state_model.specs.record_model.declared.entry.Entry.{Entry}
+use Rattle.state_model.specs.record_model.Nodes.{root_at}
+use Rattle.state_model.specs.file_tree.declared.link.Link.{Link}
 use Rattle.index_model.specs.Trees.{Tree, walk, one_if}
 use Rattle.index_model.specs.Indexes.{Place, node_of_block, nodes_of, links_of, rises, IsIndex}
 use Rattle.index_model.specs.Walks.{Broken, Met, all_judged, met_in, met_from, nothing_met, root_vcn, walk_of}

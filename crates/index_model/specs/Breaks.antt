@@ -1,10 +1,10 @@
 -- What a node that a fault names breaks.
 use Rattle.std.specs.Prelude.{◌≡◌, ◌⊎◌, ℕ, suc, false, List, [], ◌∷◌, ◌++◌, Some, None, Result, Ok, Err}
-use Rattle.disk_model.specs.declared.block.Block.{Block}
-use Rattle.disk_model.specs.Content.{Content}
-use Rattle.record_model.specs.declared.entry.Entry.{Entry}
-use Rattle.record_model.specs.Nodes.{root_at}
-use Rattle.file_tree.specs.declared.link.Link.{Link}
+use Rattle.state_model.specs.disk_model.declared.block.Block.{Block}
+use Rattle.state_model.specs.disk_model.Content.{Content}
+use Rattle.state_model.specs.record_model.declared.entry.Entry.{Entry}
+use Rattle.state_model.specs.record_model.Nodes.{root_at}
+use Rattle.state_model.specs.file_tree.declared.link.Link.{Link}
 use Rattle.index_model.specs.Indexes.{Place, node_block, node_of_body, node_of_block, entry_link, precedes, most_levels}
 use Rattle.index_model.specs.Walks.{Broken, root_vcn, Event, Child, Deep, Faulty, Named, Found, final, met_in, sought_in}
 

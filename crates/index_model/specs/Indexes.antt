@@ -2,17 +2,17 @@
 use Rattle.std.specs.Prelude.{◌≡◌, ℕ, ◌/◌, ◌%◌, ◌≤◌, Bool, true, not, ◌&&◌, ◌==◌, nat_lt, if◌then◌else◌, List, [], ◌∷◌, length, slice_get, Option, Some, None, Result, Ok, Err}
 use Rattle.std.specs.List.{filter_map}
 use Rattle.std.specs.Ordering.{is_gt}
-use Rattle.host_base.specs.Answers.{◌>>=◌, needs}
-use Rattle.disk_model.specs.declared.block.Block.{Block}
-use Rattle.disk_model.specs.declared.block.BlockKind.TheVariants.{Index}
-use Rattle.disk_model.specs.Numbers.{field}
-use Rattle.disk_model.specs.Bodies.{BodyOf}
-use Rattle.disk_model.specs.Content.{Content, is_signed}
-use Rattle.record_model.specs.declared.entry.Entry.{Entry}
-use Rattle.record_model.specs.StdValues.{file_name_of}
-use Rattle.record_model.specs.Nodes.{Node, node_at}
-use Rattle.file_tree.specs.declared.link.Link.{Link}
-use Rattle.file_tree.specs.Names.{name_order}
+use Rattle.state_model.specs.host_base.Answers.{◌>>=◌, needs}
+use Rattle.state_model.specs.disk_model.declared.block.Block.{Block}
+use Rattle.state_model.specs.disk_model.declared.block.BlockKind.TheVariants.{Index}
+use Rattle.state_model.specs.disk_model.Numbers.{field}
+use Rattle.state_model.specs.disk_model.Bodies.{BodyOf}
+use Rattle.state_model.specs.disk_model.Content.{Content, is_signed}
+use Rattle.state_model.specs.record_model.declared.entry.Entry.{Entry}
+use Rattle.state_model.specs.record_model.StdValues.{file_name_of}
+use Rattle.state_model.specs.record_model.Nodes.{Node, node_at}
+use Rattle.state_model.specs.file_tree.declared.link.Link.{Link}
+use Rattle.state_model.specs.file_tree.Names.{name_order}
 use Rattle.state_model.specs.Files.{named}
 use Rattle.index_model.specs.declared.key.Key.{Key}
 use Rattle.index_model.specs.Trees.{Tree, walk, held, levels, raws_of, Stands}

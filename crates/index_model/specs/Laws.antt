@@ -1,9 +1,9 @@
 -- The laws of indexes, and of the walk over one.
 use Rattle.std.specs.Prelude.{◌≡◌, ℕ, List, Option, Ok, Err}
-use Rattle.disk_model.specs.Content.{Content}
-use Rattle.record_model.specs.declared.entry.Entry.{Entry}
-use Rattle.record_model.specs.Nodes.{root_at}
-use Rattle.file_tree.specs.declared.link.Link.{Link}
+use Rattle.state_model.specs.disk_model.Content.{Content}
+use Rattle.state_model.specs.record_model.declared.entry.Entry.{Entry}
+use Rattle.state_model.specs.record_model.Nodes.{root_at}
+use Rattle.state_model.specs.file_tree.declared.link.Link.{Link}
 use Rattle.index_model.specs.Trees.{Tree, walk}
 use Rattle.index_model.specs.Indexes.{Place, node_of_block, nodes_of, links_of, IsIndex}
 use Rattle.index_model.specs.Walks.{Broken, walk_of, find_of}

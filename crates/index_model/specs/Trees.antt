@@ -1,7 +1,7 @@
 -- An index as a tree of entries, whose nodes lie anywhere.
 use Rattle.std.specs.Prelude.{◌≡◌, ℕ, ◌+◌, Bool, true, false, List, [], ◌∷◌, ◌++◌, Option, Some, None, nat_eq, max}
-use Rattle.record_model.specs.declared.entry.Entry.{Entry as Raw}
-use Rattle.record_model.specs.Nodes.{last_entry}
+use Rattle.state_model.specs.record_model.declared.entry.Entry.{Entry as Raw}
+use Rattle.state_model.specs.record_model.Nodes.{last_entry}
 use Rattle.index_model.specs.declared.key.Key.{Key}
 
 -- A node's entries with what hangs below them: it begins with the last entry, or with an entry and the rest. A number is the

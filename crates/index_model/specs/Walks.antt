@@ -1,12 +1,12 @@
 -- The walk over an index that a content may hold, and the search for a name in it: what they meet in order, up to the first
 -- fault.
 use Rattle.std.specs.Prelude.{ℕ, zero, suc, ◌-◌, ◌^◌, Bool, true, false, not, ◌&&◌, List, [], ◌∷◌, ◌++◌, length, replicate, set, slice_index_or, is_some, Option, Some, None, Result, Ok, Err}
-use Rattle.host_base.specs.Answers.{◌>>=◌, needs}
-use Rattle.disk_model.specs.Content.{Content}
-use Rattle.record_model.specs.declared.entry.Entry.{Entry}
-use Rattle.record_model.specs.Nodes.{root_at}
-use Rattle.file_tree.specs.declared.link.Link.{Link}
-use Rattle.file_tree.specs.Names.{same_name, comes_before}
+use Rattle.state_model.specs.host_base.Answers.{◌>>=◌, needs}
+use Rattle.state_model.specs.disk_model.Content.{Content}
+use Rattle.state_model.specs.record_model.declared.entry.Entry.{Entry}
+use Rattle.state_model.specs.record_model.Nodes.{root_at}
+use Rattle.state_model.specs.file_tree.declared.link.Link.{Link}
+use Rattle.state_model.specs.file_tree.Names.{same_name, comes_before}
 use Rattle.index_model.specs.declared.side.Side.{Side}
 use Rattle.index_model.specs.declared.side.Side.TheVariants.{Unnamed, Before, Same, Behind}
 use Rattle.index_model.specs.Indexes.{Place, number_of, node_block, node_of_block, entry_link, precedes}

@@ -1,4 +1,4 @@
-use host_base::{Bytes, FileRef};
+use state_model::{Bytes, FileRef};
 
 /// What an entry before the last stands for: a file, and the file-name value that names it.
 #[derive(Debug, Drop)]

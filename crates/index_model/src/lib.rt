@@ -12,3 +12,4 @@ mod side;
 pub use key::Key;
 pub use laws::{fault_breaks, one_index, walk_is_index};
 pub use side::{ROOT_VCN, Side};
+pub use state_model::{Link, LinkList, Memory, Name, Node, Run, Runs, compare_names, is_same_name};

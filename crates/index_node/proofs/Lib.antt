@@ -1,3 +1,4 @@
+pub use Rattle.disk_model.proofs as disk_model
 pub mod Keys
 pub mod Walking
 pub mod Whole

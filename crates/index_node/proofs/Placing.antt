@@ -5,7 +5,7 @@ use Rattle.std.proofs.lemmas.List.{length-append, append-nil, drop_all, take_mor
 use Rattle.std.proofs.lemmas.List.Elements.{All-from_recursion}
 use Rattle.std.proofs.lemmas.Grind.{flat_map-append}
 use borrow.Rule.Slice.PartMut.{put_mid}
-use Rattle.host_base.specs.declared.file_ref.FileRef.{FileRef}
+use Rattle.disk_model.specs.host_base.declared.file_ref.FileRef.{FileRef}
 use Rattle.disk_model.specs.Numbers.{spell}
 use Rattle.disk_model.specs.Bytes.{written, zeros, up8}
 use Rattle.disk_model.proofs.Puts.{written_parts, written_behind_written}

@@ -4,7 +4,7 @@ use Rattle.std.specs.Prelude.{insert, remove}
 use Rattle.std.proofs.lemmas.List.{take-take, get_or-take, set_split, drop_all}
 use Rattle.std.proofs.lemmas.List.Sums.{sum_by_more, sum_by_more_le, sum_by-insert, sum_by-remove, sum_by-take-drop, sum_by_push}
 use Rattle.std.proofs.lemmas.Bool.{le-leb}
-use Rattle.host_base.specs.Answers.{◌>>=◌, needs}
+use Rattle.disk_model.specs.host_base.Answers.{◌>>=◌, needs}
 use Rattle.disk_model.specs.Numbers.{field}
 use Rattle.disk_model.specs.Bytes.{AreBytes}
 use Rattle.disk_model.proofs.Fields.{field-lt}

@@ -1,7 +1,7 @@
 -- What was found so far, and what the bytes that are left come to.
 use Rattle.std.proofs.Common.{◌≡◌, ℕ, suc, ◌+◌, ◌-◌, ◌<◌, ◌≤◌, Bool, true, false, ◌&&◌, nat_lt, List, [], ◌∷◌, ◌++◌, length, map, take, drop, Result, Ok, Err, refl, sym, ap, ◌∙◌, append_assoc, subst, arith, if◌then◌else◌}
 use Rattle.std.specs.List.{list_all}
-use Rattle.host_base.specs.Answers.{◌>>=◌, needs}
+use Rattle.disk_model.specs.host_base.Answers.{◌>>=◌, needs}
 use Rattle.disk_model.specs.Numbers.{field}
 use Rattle.record_model.specs.declared.entry.Entry.{Entry}
 use Rattle.record_model.specs.Records.{Pieces, with_piece}

@@ -3,7 +3,7 @@ use Rattle.std.proofs.Common.{◌≡◌, ℕ, ◌<◌, ◌≤◌, Bool, true, fa
 use Rattle.std.specs.Prelude.{◌&&◌}
 use Rattle.std.proofs.lemmas.Bool.{and_parts, leb-true}
 use Rattle.std.proofs.lemmas.List.{length-drop}
-use Rattle.host_base.specs.Answers.{◌>>=◌, needs, Explains}
+use Rattle.disk_model.specs.host_base.Answers.{◌>>=◌, needs, Explains}
 use Rattle.disk_model.specs.declared.block.BlockKind.TheVariants.{Index}
 use Rattle.disk_model.specs.Numbers.{field}
 use Rattle.disk_model.specs.Content.{is_signed}

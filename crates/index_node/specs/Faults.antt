@@ -1,6 +1,6 @@
 -- Where an error of a node's calls comes from.
 use Rattle.std.specs.Prelude.{ℕ}
-use Rattle.host_base.specs.Answers.{Cause, refused, no_memory, never}
+use Rattle.disk_model.specs.host_base.Answers.{Cause, refused, no_memory, never}
 use Rattle.index_node.specs.declared.fault.NodeFault.{NodeFault}
 use Rattle.index_node.specs.declared.fault.NodeFault.TheVariants.{Rule, Full, Memory}
 

@@ -1,6 +1,6 @@
 -- Parts of the spelling of a node.
 use Rattle.std.specs.Prelude.{ℕ, ◌+◌, List, ◌++◌, length}
-use Rattle.host_base.specs.FileRefs.{packed}
+use Rattle.disk_model.specs.host_base.FileRefs.{packed}
 use Rattle.disk_model.specs.Numbers.{spell}
 use Rattle.disk_model.specs.Bytes.{zeros}
 use Rattle.record_model.specs.declared.entry.Entry.{Entry}

@@ -3,8 +3,7 @@ ghost use Rattle.disk_model.specs.Numbers.{field};
 ghost use Rattle.record_model.specs.Values.{is_file_name};
 ghost use Rattle.record_model.specs.Nodes.{child_flag, is_last, has_entry_length, has_key, has_entry, down_of, entry_of};
 
-use disk_model::{u16_at, u64_at};
-use host_base::{Bytes, FileRef};
+use disk_model::{Bytes, FileRef, u16_at, u64_at};
 use record_model::{Entry, EntryFlags, FileNameValue, ValueFault};
 use std::alloc::{AllocError, Global};
 use std_values::NamedValue;

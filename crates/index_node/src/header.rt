@@ -1,5 +1,5 @@
 ghost use Rattle.std.specs.Prelude.{◌≡◌, ◌≤◌, ◌<◌, true, false, length};
-ghost use Rattle.host_base.specs.Answers.{Gives};
+ghost use Rattle.disk_model.specs.host_base.Answers.{Gives};
 ghost use Rattle.disk_model.specs.Numbers.{field};
 ghost use Rattle.record_model.specs.Nodes.{has_node_header, children_flag, entry_bytes, node_entries, has_root_header};
 ghost use Rattle.index_node.specs.Faults.{rule_cause};

@@ -20,10 +20,12 @@ mod root_writing;
 mod walk;
 mod writing;
 
+pub use disk_model::{u8_at, u64_at};
 pub use fault::NodeFault;
 pub use laws::edits_fit;
 pub use node::{Node, read_root};
-pub use record_model::{Entry, EntryList};
+pub use record_model::{Entry, EntryList, FileNameValue, Run, ValueFault};
 pub use root_laws::{root_read_again, spelled_in_each_block};
 pub use root_spelling::have_spelling;
 pub use root_writing::write_root;
+pub use std_values::{FixedValue, NamedValue, is_file_name};

@@ -1,5 +1,5 @@
 ghost use Rattle.std.specs.Prelude.{◌≡◌, ◌+◌, ◌<◌, ◌≤◌, true, OnOk, OnErr, IfOk, length};
-ghost use Rattle.host_base.specs.Answers.{Gives};
+ghost use Rattle.disk_model.specs.host_base.Answers.{Gives};
 ghost use Rattle.disk_model.specs.Content.{is_signed};
 ghost use Rattle.disk_model.specs.declared.block.BlockKind.TheVariants.{Index as index_block};
 ghost use Rattle.record_model.specs.Values.{is_file_name};
@@ -11,8 +11,7 @@ use crate::fault::NodeFault;
 use crate::header::{has_root_header, node_entries};
 use crate::room::{named_length, node_used};
 use crate::writing::{children_of, put_block_head, put_entries, put_zeros};
-use disk_model::u64_at;
-use host_base::{Bytes, FileRef, Memory};
+use disk_model::{Bytes, FileRef, Memory, u64_at};
 use record_model::{Entry, EntryList};
 use std::alloc::Global;
 use std::marker::Model;

@@ -4,7 +4,7 @@ ghost use Rattle.record_model.specs.Values.{is_file_name};
 ghost use Rattle.record_model.specs.Nodes.{down_flag, children_of, entry_length, node_room, node_used, no_file, FitsDown, FitEntries, FitsEntry, FitsLast};
 ghost use Rattle.index_node.specs.Roots.{HaveSpelling};
 
-use host_base::FileRef;
+use disk_model::FileRef;
 use record_model::{Entry, EntryList};
 use std_values::is_file_name;
 

@@ -5,8 +5,7 @@ ghost use Rattle.index_node.specs.Roots.{root_head, root_spelling, HaveSpelling}
 
 use crate::Node;
 use crate::root_spelling::children_of;
-use disk_model::{put_bytes, put_u32};
-use host_base::Bytes;
+use disk_model::{Bytes, put_bytes, put_u32};
 use record_model::EntryList;
 use std::alloc::{AllocError, Global};
 

@@ -1,5 +1,5 @@
 ghost use Rattle.std.specs.Prelude.{◌≡◌, ◌+◌, ◌*◌, ◌≤◌, true, length, IfOk, OnOk};
-ghost use Rattle.host_base.specs.Answers.{Gives};
+ghost use Rattle.disk_model.specs.host_base.Answers.{Gives};
 ghost use Rattle.disk_model.specs.Numbers.{field};
 ghost use Rattle.record_model.specs.Nodes.{child_flag, has_key};
 ghost use Rattle.index_node.specs.Faults.{rule_cause};

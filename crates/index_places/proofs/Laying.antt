@@ -13,8 +13,8 @@ use Rattle.index_model.specs.Trees.{Tree, held, times}
 use Rattle.index_model.specs.Indexes.{Place, number_of, node_block, node_of_block, nodes_of}
 use Rattle.index_model.specs.Laws.{HoldsIndex}
 use Rattle.index_model.proofs.Marks.{one_number}
-use Rattle.index_change.specs.Changing.{IsLaidOut, uses}
-use Rattle.index_change.proofs.Lawful.{some_read}
+use Rattle.state_streams.specs.index_change.Changing.{IsLaidOut, uses}
+use Rattle.state_streams.proofs.index_change.Lawful.{some_read}
 use Rattle.state_model.specs.declared.geometry.Geometry.{Geometry}
 use Rattle.state_model.specs.declared.stream.Extents.{Extents}
 use Rattle.state_model.specs.declared.stream.Stream.{Stream}
@@ -32,10 +32,10 @@ use Rattle.stream_laws.specs.Sharing.{StreamKey, stream_at, runs_in}
 use Rattle.stream_laws.proofs.Changing.{itself}
 use Rattle.stream_laws.proofs.Placing.{one_place}
 use Rattle.stream_laws.proofs.Sharing.{stream_once}
-use Rattle.plan_owners.specs.States.{Stands}
-use Rattle.plan_owners.proofs.Outside.{once}
-use Rattle.plan_owners.proofs.Standing.{streams_at}
-use Rattle.plan_model.proofs.Drafting.{per_is}
+use Rattle.state_streams.specs.plan_owners.States.{Stands}
+use Rattle.state_streams.proofs.plan_owners.Outside.{once}
+use Rattle.state_streams.proofs.plan_owners.Standing.{streams_at}
+use Rattle.state_streams.proofs.plan_model.Drafting.{per_is}
 use Rattle.state_streams.specs.Streams.{IsPlacedIn}
 use Rattle.state_streams.proofs.Lying.{all_inside, sizes_are, spelled_is, few_there}
 use Rattle.index_places.specs.Places.{HasOwnBlock, IsInitialised, IsIndexBlock}

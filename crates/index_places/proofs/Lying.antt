@@ -12,7 +12,7 @@ use Rattle.state_model.specs.Loads.{total_clusters}
 use Rattle.state_model.specs.Streams.{holds, lcn_in, block_at}
 use Rattle.volume_model.specs.Indexes.{void_block, or_void, index_block, block_count, blocks_of, runs_end}
 use Rattle.volume_model.specs.Sizes.{is_hole, lies_below, lies_inside}
-use Rattle.plan_growth.proofs.Runs.{end_is_total}
+use Rattle.state_streams.proofs.plan_growth.Runs.{end_is_total}
 
 -- ---- the cluster of a VCN in runs that follow one another, none of them sparse
 

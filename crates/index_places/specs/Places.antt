@@ -9,7 +9,7 @@ use Rattle.record_model.specs.Records.{Record}
 use Rattle.index_model.specs.Trees.{Tree, times}
 use Rattle.index_model.specs.Indexes.{Place, node_block, node_of_block}
 use Rattle.index_model.specs.Laws.{HoldsIndex}
-use Rattle.index_change.specs.Changing.{IsLaidOut, uses}
+use Rattle.state_streams.specs.index_change.Changing.{IsLaidOut, uses}
 use Rattle.state_model.specs.declared.geometry.Geometry.{Geometry}
 use Rattle.state_model.specs.Files.{is_directory_record}
 use Rattle.state_model.specs.Streams.{block_at}
@@ -17,7 +17,7 @@ use Rattle.volume_model.specs.Indexes.{void_block, index_stream, index_place}
 use Rattle.volume_model.specs.Volumes.{Volume, file_in, size_or}
 use Rattle.stream_laws.specs.Owners.{initialised_in}
 use Rattle.stream_laws.specs.Sharing.{runs_in}
-use Rattle.plan_owners.specs.States.{Stands}
+use Rattle.state_streams.specs.plan_owners.States.{Stands}
 
 -- the VCN's block isn't the one past the end of every disk, or a node with this VCN stands in it
 abbrev pub HasOwnBlock : Content → Place → ℕ → Type 0

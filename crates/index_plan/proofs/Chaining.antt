@@ -3,7 +3,7 @@ use Rattle.std.proofs.Common.{◌≡◌, ℕ, suc, List, [], ◌∷◌, ◌++◌
 use Rattle.std.specs.Prelude.{IfSome}
 use Rattle.std.proofs.lemmas.List.{append-nil, append_assoc}
 use Rattle.index_model.specs.Walks.{Broken}
-use Rattle.host_base.specs.Answers.{◌>>=◌, ExplainsOrFails}
+use Rattle.index_model.specs.host_base.Answers.{◌>>=◌, ExplainsOrFails}
 use Rattle.record_model.specs.declared.entry.Entry.{Entry as Raw}
 use Rattle.index_plan.specs.declared.fault.PlanFault.{PlanFault}
 use Rattle.index_plan.specs.declared.write.Write.{Write}

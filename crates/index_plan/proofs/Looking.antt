@@ -2,7 +2,7 @@
 use Rattle.std.proofs.Common.{◌≡◌, ℕ, suc, ◌+◌, ◌≤◌, ◌<◌, length, drop, Bool, true, false, List, Option, Some, None, Result, Ok, Err, refl, sym, ap, ◌∙◌, add-one, if◌then◌else◌}
 use Rattle.std.specs.Prelude.{IfSome}
 use Rattle.std.proofs.lemmas.List.{drop_all}
-use Rattle.host_base.specs.Answers.{◌>>=◌, ExplainsOrFails}
+use Rattle.index_model.specs.host_base.Answers.{◌>>=◌, ExplainsOrFails}
 use Rattle.record_model.specs.declared.entry.Entry.{Entry as Raw}
 use Rattle.index_model.specs.declared.key.Key.{Key}
 use Rattle.index_model.specs.Walks.{Broken}

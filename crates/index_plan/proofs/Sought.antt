@@ -2,7 +2,7 @@
 use Rattle.std.proofs.Common.{◌≡◌, ℕ, zero, suc, ◌+◌, ◌-◌, ◌≤◌, ◌<◌, length, List, [], ◌∷◌, ◌++◌, Option, Some, None, Result, Ok, refl, sym, ap, ◌∙◌, arith}
 use Rattle.std.specs.Prelude.{All}
 use Rattle.std.proofs.lemmas.List.Elements.{All-nil, All-cons, All-head, All-tail, All-append}
-use Rattle.host_base.specs.Answers.{◌>>=◌}
+use Rattle.index_model.specs.host_base.Answers.{◌>>=◌}
 use Rattle.record_model.specs.declared.entry.Entry.{Entry as Raw}
 use Rattle.index_model.specs.declared.key.Key.{Key}
 use Rattle.index_model.specs.Trees.{Tree, Leaf, Down, Entry, DownEntry, raw, walk, levels, raws_of, Stands}

@@ -3,8 +3,8 @@ use Rattle.std.proofs.Common.{◌≡◌, ℕ, ◌≤◌, Option, Some, None, Res
 use Rattle.std.specs.Prelude.{IfSome, IfOk, IfErr, OnOk, List}
 use Rattle.index_model.specs.Walks.{Broken}
 use Rattle.record_model.specs.declared.entry.Entry.{Entry as Raw}
-use Rattle.host_base.specs.Answers.{ExplainsOrFails}
-use Rattle.host_base.proofs.Known.{one, both}
+use Rattle.index_model.specs.host_base.Answers.{ExplainsOrFails}
+use Rattle.index_model.proofs.host_base.Known.{one, both}
 use Rattle.index_plan.specs.declared.fault.PlanFault.{PlanFault}
 use Rattle.index_plan.specs.declared.fault.PlanFault.TheVariants.{Node, Absent, Deep, Failed, Memory}
 use Rattle.index_plan.specs.declared.fault.ReadFault.{ReadFault}

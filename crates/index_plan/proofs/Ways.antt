@@ -10,8 +10,8 @@ use Rattle.index_plan.specs.Search.{path_to}
 use Rattle.index_plan.specs.Plans.{Spot}
 use Rattle.index_plan.specs.Lists.{own_key, entry_at, place, way}
 use Rattle.std.specs.Prelude.{IfSome}
-use Rattle.host_base.specs.Answers.{◌>>=◌, ExplainsOrFails}
-use Rattle.host_base.proofs.Known.{one, both}
+use Rattle.index_model.specs.host_base.Answers.{◌>>=◌, ExplainsOrFails}
+use Rattle.index_model.proofs.host_base.Known.{one, both}
 use Rattle.index_plan.specs.declared.fault.PlanFault.{PlanFault}
 use Rattle.index_plan.specs.Faults.{way_cause}
 use Rattle.index_plan.specs.Reading.{NodeReads, node_of, nodes_of, read_by, too_low, stop_at, first_stop, stop_down, way_down, way_of, with_front}

@@ -1,8 +1,8 @@
 -- Why no plan is made.
 use Rattle.std.specs.Prelude.{◌≡◌, ℕ, ◌≤◌, Option, Some, None, Result, Ok, Err, nat_eq, if◌then◌else◌}
 use Rattle.index_model.specs.Walks.{Broken}
-use Rattle.host_base.specs.Answers.{Cause, refused, no_memory, failed, never}
-use Rattle.host_base.specs.Causes.{Counts}
+use Rattle.index_model.specs.host_base.Answers.{Cause, refused, no_memory, failed, never}
+use Rattle.index_model.specs.host_base.Causes.{Counts}
 use Rattle.index_plan.specs.declared.fault.PlanFault.{PlanFault}
 use Rattle.index_plan.specs.declared.fault.PlanFault.TheVariants.{Node, Absent, Deep, Failed, Memory}
 use Rattle.index_plan.specs.declared.fault.ReadFault.{ReadFault}

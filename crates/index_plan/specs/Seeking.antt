@@ -1,6 +1,6 @@
 -- The way to a key that is there, read node by node.
 use Rattle.std.specs.Prelude.{◌≡◌, ℕ, zero, suc, ◌-◌, ◌≤◌, Bool, true, false, List, [], ◌∷◌, ◌++◌, length, Option, Some, None, Result, Ok, Err, All, if◌then◌else◌}
-use Rattle.host_base.specs.Answers.{◌>>=◌}
+use Rattle.index_model.specs.host_base.Answers.{◌>>=◌}
 use Rattle.record_model.specs.declared.entry.Entry.{Entry as Raw}
 use Rattle.index_model.specs.declared.key.Key.{Key}
 use Rattle.index_model.specs.Walks.{Broken, root_vcn}

@@ -1,5 +1,5 @@
 ghost use Rattle.std.specs.Prelude.{◌≡◌, ◌<◌, ◌≤◌, ◌++◌, ◌∷◌, [], IfSome, IfErr, IfOk, OnOk, OnErr, length};
-ghost use Rattle.host_base.specs.Answers.{GivesOrFails};
+ghost use Rattle.index_model.specs.host_base.Answers.{GivesOrFails};
 ghost use Rattle.index_plan.specs.Faults.{Fails, OnlyReading, way_cause};
 ghost use Rattle.index_plan.specs.declared.fault.PlanFault.TheVariants.{Memory as no_memory};
 ghost use Rattle.index_plan.specs.Lists.{own_key};

@@ -1,5 +1,5 @@
 ghost use Rattle.std.specs.Prelude.{◌≡◌, ◌<◌, IfErr, IfOk, IfSome, length};
-ghost use Rattle.host_base.specs.Answers.{GivesOrFails};
+ghost use Rattle.index_model.specs.host_base.Answers.{GivesOrFails};
 ghost use Rattle.index_plan.specs.Faults.{Fails, OnlyReading, ReadFails, read_cause, told, way_cause};
 ghost use Rattle.index_plan.specs.Reading.{read_by};
 ghost use Rattle.index_plan.specs.Room.{Sized};

@@ -7,10 +7,10 @@ use Rattle.std.specs.Ordering.{is_gt, is_lt, ordering_reverse}
 use Rattle.std.specs.declared.cmp.Ordering.{Ordering}
 use Rattle.std.specs.declared.cmp.Ordering.TheVariants.{Less, Equal, Greater}
 use Rattle.std.proofs.lemmas.Bool.{and_parts, both_ways, not-true}
-use Rattle.file_tree.specs.declared.link.Link.{Link}
-use Rattle.file_tree.specs.Names.{name_order, same_name, comes_before}
-use Rattle.file_tree.proofs.NameOrders.{name_order_total}
-use Rattle.upcase_order.proofs.NameLaws.{same_equiv, together, equal_same}
+use Rattle.volume_model.specs.file_tree.declared.link.Link.{Link}
+use Rattle.volume_model.specs.file_tree.Names.{name_order, same_name, comes_before}
+use Rattle.volume_model.proofs.file_tree.NameOrders.{name_order_total}
+use Rattle.volume_model.proofs.upcase_order.NameLaws.{same_equiv, together, equal_same}
 use Rattle.index_model.specs.Indexes.{precedes, rises}
 use Rattle.index_tree.specs.Calls.{is_sought}
 

@@ -2,10 +2,10 @@
 use Rattle.std.proofs.Common.{◌≡◌, ℕ, List, Option, Result, Ok, Err, sym, ◌∙◌}
 use Rattle.std.specs.Prelude.{IfSome}
 use Rattle.std.specs.List.{filter}
-use Rattle.host_base.specs.Answers.{GivesOrFails}
-use Rattle.host_base.proofs.Known.{one}
-use Rattle.disk_model.specs.Content.{Content}
-use Rattle.file_tree.specs.declared.link.Link.{Link}
+use Rattle.volume_model.specs.host_base.Answers.{GivesOrFails}
+use Rattle.volume_model.proofs.host_base.Known.{one}
+use Rattle.stream_map.specs.disk_model.Content.{Content}
+use Rattle.volume_model.specs.file_tree.declared.link.Link.{Link}
 use Rattle.index_model.specs.Trees.{walk}
 use Rattle.index_model.specs.Indexes.{Place, links_of}
 use Rattle.index_model.specs.Walks.{Broken, walk_of, find_of}

@@ -1,7 +1,7 @@
 -- The final link of a list.
 use Rattle.std.proofs.Common.{◌≡◌, ◌-◌, suc, List, [], ◌∷◌, length, refl, ap, ◌∙◌, arith}
 use Rattle.std.specs.Prelude.{slice_get}
-use Rattle.file_tree.specs.declared.link.Link.{Link}
+use Rattle.volume_model.specs.file_tree.declared.link.Link.{Link}
 use Rattle.index_model.specs.Walks.{final}
 
 pub final_last : (links : List Link) → final links ≡ slice_get links (length links - 1)

@@ -4,12 +4,12 @@ use Rattle.std.specs.Prelude.{option_to_list}
 use Rattle.std.specs.List.{filter}
 use Rattle.std.proofs.lemmas.List.{append-nil, append_assoc}
 use Rattle.std.proofs.lemmas.List.Elements.{filter-append, filter_map-append}
-use Rattle.host_base.specs.Answers.{◌>>=◌}
-use Rattle.disk_model.specs.Content.{Content}
-use Rattle.record_model.specs.declared.entry.Entry.{Entry as Raw}
-use Rattle.record_model.specs.Nodes.{last_entry}
-use Rattle.file_tree.specs.declared.link.Link.{Link}
-use Rattle.file_tree.specs.Names.{comes_before}
+use Rattle.volume_model.specs.host_base.Answers.{◌>>=◌}
+use Rattle.stream_map.specs.disk_model.Content.{Content}
+use Rattle.stream_map.specs.record_model.declared.entry.Entry.{Entry as Raw}
+use Rattle.stream_map.specs.record_model.Nodes.{last_entry}
+use Rattle.volume_model.specs.file_tree.declared.link.Link.{Link}
+use Rattle.volume_model.specs.file_tree.Names.{comes_before}
 use Rattle.index_model.specs.Trees.{Tree, Leaf, Down, Entry, DownEntry, walk, one_if, same, held, levels as height, raw, raws_of, Stands}
 use Rattle.index_model.specs.Indexes.{Place, some_entries, node_of_block, nodes_of, entry_link, key_link, links_of, rises}
 use Rattle.index_model.specs.Walks.{Broken, Event, Met, all_judged, is_fresh, with_mark, with_link, below, inside, entry_sought, behind, side_of, kid_sought, sought_in, met_from, nothing_met, root_vcn, find_of, side_by, Found}

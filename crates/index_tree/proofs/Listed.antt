@@ -6,11 +6,11 @@ use Rattle.std.proofs.Common.{length-append}
 use Rattle.std.proofs.lemmas.Bool.Decides.{nat_tests}
 use Rattle.std.proofs.lemmas.Option.{slice_get-get_or}
 use Rattle.std.proofs.lemmas.List.FromFn.{length-map-range_with_len, get_or-map-range_with_len}
-use Rattle.disk_model.specs.declared.block.Block.{Block}
-use Rattle.state_model.specs.declared.stream.Extents.{Extents}
-use Rattle.state_model.specs.Loads.{no_extents}
-use Rattle.state_model.specs.Streams.{block_at}
-use Rattle.disk_model.specs.declared.block.BlockKind.TheVariants.{Index}
+use Rattle.stream_map.specs.disk_model.declared.block.Block.{Block}
+use Rattle.stream_map.specs.state_model.declared.stream.Extents.{Extents}
+use Rattle.stream_map.specs.state_model.Loads.{no_extents}
+use Rattle.stream_map.specs.state_model.Streams.{block_at}
+use Rattle.stream_map.specs.disk_model.declared.block.BlockKind.TheVariants.{Index}
 use Rattle.volume_model.specs.Indexes.{void_block, or_void, index_block, block_count, blocks_of}
 use Rattle.index_tree.specs.Allocations.{IsCounted}
 

@@ -5,9 +5,9 @@ use Rattle.std.specs.Option.{option_map}
 use Rattle.std.specs.List.Sorted.{IsNonDecreasingBy, IsPartitionPoint}
 use Rattle.std.proofs.lemmas.Bool.{and_parts, cases_lt}
 use Rattle.std.proofs.lemmas.Bool.Decides.{nat_tests}
-use Rattle.disk_model.specs.declared.block.BlockKind.TheVariants.{Index}
-use Rattle.record_model.specs.declared.runs.Run.{Run}
-use Rattle.state_model.specs.Streams.{holds, lcn_in, block_at}
+use Rattle.stream_map.specs.disk_model.declared.block.BlockKind.TheVariants.{Index}
+use Rattle.stream_map.specs.record_model.declared.runs.Run.{Run}
+use Rattle.stream_map.specs.state_model.Streams.{holds, lcn_in, block_at}
 use Rattle.index_tree.specs.Allocations.{stand_apart}
 
 -- ---- runs in order rise

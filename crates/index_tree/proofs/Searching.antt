@@ -1,10 +1,10 @@
 -- Steps of a search, one after the other, over a content that may be known.
 use Rattle.std.proofs.Common.{◌≡◌, ℕ, zero, suc, ◌+◌, ◌<◌, ◌≤◌, true, false, List, [], ◌∷◌, ◌++◌, length, get_or, drop, drop-cons, Option, Result, Ok, refl, sym, ap, ◌∙◌, subst, add-one}
 use Rattle.std.specs.Prelude.{IfSome}
-use Rattle.host_base.specs.Answers.{◌>>=◌, ExplainsOrFails}
-use Rattle.host_base.proofs.Known.{both, one}
-use Rattle.disk_model.specs.Content.{Content}
-use Rattle.record_model.specs.declared.entry.Entry.{Entry}
+use Rattle.volume_model.specs.host_base.Answers.{◌>>=◌, ExplainsOrFails}
+use Rattle.volume_model.proofs.host_base.Known.{both, one}
+use Rattle.stream_map.specs.disk_model.Content.{Content}
+use Rattle.stream_map.specs.record_model.declared.entry.Entry.{Entry}
 use Rattle.index_model.specs.declared.side.Side.{Side}
 use Rattle.index_model.specs.declared.side.Side.TheVariants.{Unnamed, Before, Same, Behind}
 use Rattle.index_model.specs.Indexes.{Place, entry_link}

@@ -1,11 +1,11 @@
 -- Steps of a walk, one after the other, over a content that may be known.
 use Rattle.std.proofs.Common.{◌≡◌, ℕ, zero, suc, ◌+◌, ◌<◌, ◌≤◌, List, [], ◌∷◌, ◌++◌, length, get_or, drop, drop-cons, Option, Result, Ok, Err, refl, sym, ap, ◌∙◌, subst, add-one, arith}
 use Rattle.std.specs.Prelude.{IfSome}
-use Rattle.host_base.specs.Answers.{◌>>=◌, Cause, refused, no_memory, failed, never, Explains, ExplainsOrFails, Gives, GivesOrFails}
-use Rattle.host_base.specs.Causes.{CountsCause}
-use Rattle.host_base.proofs.Known.{both, one, always}
-use Rattle.disk_model.specs.Content.{Content}
-use Rattle.record_model.specs.declared.entry.Entry.{Entry}
+use Rattle.volume_model.specs.host_base.Answers.{◌>>=◌, Cause, refused, no_memory, failed, never, Explains, ExplainsOrFails, Gives, GivesOrFails}
+use Rattle.volume_model.specs.host_base.Causes.{CountsCause}
+use Rattle.volume_model.proofs.host_base.Known.{both, one, always}
+use Rattle.stream_map.specs.disk_model.Content.{Content}
+use Rattle.stream_map.specs.record_model.declared.entry.Entry.{Entry}
 use Rattle.index_model.specs.Indexes.{Place}
 use Rattle.index_model.specs.Walks.{Broken, Event, Met, all_judged, entry_met, kid_met, met_in, met_from, nothing_met, root_vcn}
 use Rattle.index_model.proofs.Steps.{all_judged-append, met_in_next, met_in_end}

@@ -1,7 +1,7 @@
 -- The blocks of an index allocation, as they are found among its runs.
 use Rattle.std.specs.Prelude.{◌≡◌, ℕ, ◌+◌, ◌^◌, ◌<◌, Bool, true, ◌&&◌, nat_le, List, [], ◌∷◌}
-use Rattle.record_model.specs.declared.runs.Run.{Run}
-use Rattle.state_model.specs.declared.stream.Extents.{Extents}
+use Rattle.stream_map.specs.record_model.declared.runs.Run.{Run}
+use Rattle.stream_map.specs.state_model.declared.stream.Extents.{Extents}
 use Rattle.volume_model.specs.Indexes.{block_count}
 
 -- runs stand in order, none before this VCN: each begins where the one before it ends, or behind

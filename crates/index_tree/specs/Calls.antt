@@ -1,9 +1,9 @@
 -- What the calls over an index answer.
 use Rattle.std.specs.Prelude.{◌≡◌, ℕ, ⊤, Bool, List, Result, Ok, Err}
 use Rattle.std.specs.List.{filter}
-use Rattle.disk_model.specs.Content.{Content}
-use Rattle.file_tree.specs.declared.link.Link.{Link}
-use Rattle.file_tree.specs.Names.{same_name}
+use Rattle.stream_map.specs.disk_model.Content.{Content}
+use Rattle.volume_model.specs.file_tree.declared.link.Link.{Link}
+use Rattle.volume_model.specs.file_tree.Names.{same_name}
 use Rattle.index_model.specs.Trees.{Tree, walk}
 use Rattle.index_model.specs.Indexes.{Place, links_of}
 use Rattle.index_model.specs.Breaks.{BreaksWalk, BreaksSearch}

@@ -1,15 +1,15 @@
 -- Where an error of a call over an index comes from.
 use Rattle.std.specs.Prelude.{◌≡◌, ℕ, ◌≤◌, ⊤, List, Option, Some, None, Result, Ok, Err, Bool, true, false}
-use Rattle.host_base.specs.Answers.{Cause, refused, no_memory, failed, never}
-use Rattle.host_base.specs.Causes.{Counts}
-use Rattle.block_view.specs.declared.fault.ViewFault.{ViewFault}
-use Rattle.block_view.specs.declared.fault.ViewFault.TheVariants.{Fault, Memory}
+use Rattle.volume_model.specs.host_base.Answers.{Cause, refused, no_memory, failed, never}
+use Rattle.volume_model.specs.host_base.Causes.{Counts}
+use Rattle.stream_map.specs.block_view.declared.fault.ViewFault.{ViewFault}
+use Rattle.stream_map.specs.block_view.declared.fault.ViewFault.TheVariants.{Fault, Memory}
 use Rattle.index_model.specs.declared.side.Side.{Side}
 use Rattle.index_model.specs.declared.side.Side.TheVariants.{Unnamed, Before, Same, Behind}
-use Rattle.record_model.specs.declared.entry.Entry.{Entry}
-use Rattle.record_model.specs.Nodes.{Node as NodeOf, node_at}
-use Rattle.disk_model.specs.declared.block.Block.{Block}
-use Rattle.disk_model.specs.Content.{Content}
+use Rattle.stream_map.specs.record_model.declared.entry.Entry.{Entry}
+use Rattle.stream_map.specs.record_model.Nodes.{Node as NodeOf, node_at}
+use Rattle.stream_map.specs.disk_model.declared.block.Block.{Block}
+use Rattle.stream_map.specs.disk_model.Content.{Content}
 use Rattle.index_model.specs.Walks.{Broken}
 use Rattle.index_tree.specs.declared.fault.TreeFault.{TreeFault}
 use Rattle.index_tree.specs.declared.fault.TreeFault.TheVariants.{Node, Present, Absent, Deep, View}

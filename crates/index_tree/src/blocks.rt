@@ -1,17 +1,15 @@
 //! The blocks of an index, which are found by their numbers and not listed.
 ghost use Rattle.std.specs.Prelude.{◌≡◌, ◌↔◌, [], ◌∷◌, ◌++◌, ◌+◌, ◌*◌, ◌/◌, ◌^◌, ◌<◌, ◌≤◌, ℕ, true, IsTrue, OnOk, OnErr, find, length, min, slice_get};
-ghost use Rattle.state_model.specs.Streams.{holds, block_at};
-ghost use Rattle.record_model.specs.Runs.{AreSmall};
-ghost use Rattle.disk_model.specs.declared.block.BlockKind.TheVariants.{Index};
+ghost use Rattle.stream_map.specs.state_model.Streams.{holds, block_at};
+ghost use Rattle.stream_map.specs.record_model.Runs.{AreSmall};
+ghost use Rattle.stream_map.specs.disk_model.declared.block.BlockKind.TheVariants.{Index};
 ghost use Rattle.volume_model.specs.Indexes.{or_void, runs_end, index_block, block_count, blocks_of};
 ghost use Rattle.index_tree.specs.Allocations.{stand_apart};
 
-use block_view::{Block, BlockKind};
-use record_model::Run;
-use state_model::{ClusterSize, Extents};
+use index_node::Run;
 use std::alloc::{AllocError, Global};
 use std::marker::Model;
-use stream_map::{block_at, no_extents};
+use stream_map::{Block, BlockKind, ClusterSize, Extents, block_at, no_extents};
 
 // The sectors of an index block.
 const BLOCK_SECTORS: u64 = 8;
@@ -43,7 +41,7 @@ pub struct BlockList {
 
 impl Model for BlockList {
     ghost use Rattle.std.specs.Prelude.{List, ◌++◌};
-    ghost use Rattle.disk_model.specs.declared.block.Block.{Block};
+    ghost use Rattle.stream_map.specs.disk_model.declared.block.Block.{Block};
 
     ghost Value = { List Block };
 

@@ -1,5 +1,5 @@
-use block_view::ViewFault;
 use std::alloc::AllocError;
+use stream_map::ViewFault;
 use thiserror::Error;
 
 /// Why a directory's index gives no answer.
@@ -28,7 +28,7 @@ pub enum TreeFault {
 
 impl From<AllocError> for TreeFault {
     ghost use Rattle.std.specs.Prelude.{◌≡◌};
-    ghost use Rattle.block_view.specs.declared.fault.ViewFault.TheVariants.{Memory};
+    ghost use Rattle.stream_map.specs.block_view.declared.fault.ViewFault.TheVariants.{Memory};
     ghost use Rattle.index_tree.specs.declared.fault.TreeFault.TheVariants.{View};
 
     ghost from_gives = { λ _ fault. fault ≡ View Memory };

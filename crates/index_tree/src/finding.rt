@@ -1,5 +1,5 @@
 ghost use Rattle.std.specs.Prelude.{◌≡◌, Some, IfOk, IfSome};
-ghost use Rattle.host_base.specs.Answers.{GivesOrFails};
+ghost use Rattle.volume_model.specs.host_base.Answers.{GivesOrFails};
 ghost use Rattle.index_model.specs.Indexes.{node_of_block, entry_link};
 ghost use Rattle.index_model.specs.Walks.{all_judged, below, beside, entry_sought, side_of, kid_sought, sought_in, find_of};
 ghost use Rattle.index_tree.specs.Places.{place_of};
@@ -10,13 +10,11 @@ use crate::fault::TreeFault;
 use crate::met::{Met, entry_link};
 use crate::nodes::{LEVELS_BELOW, read_node, read_root};
 use crate::place::DirPlace;
-use block_view::View;
-use file_tree::{Link, LinkList};
 use index_model::{ROOT_VCN, Side};
-use record_model::Entry;
+use index_node::Entry;
 use std::alloc::Global;
-use upcase_order::Upcase;
-use utf16_name::Name;
+use stream_map::View;
+use volume_model::{Link, LinkList, Name, Upcase};
 
 // What a search goes over, and the name that it seeks.
 #[derive(Clone, Copy)]

@@ -13,11 +13,15 @@ mod nodes;
 mod place;
 mod walking;
 
-pub use block_view::{Block, BlockKind, Change, View, ViewFault};
 pub use blocks::BlockList;
 pub use fault::TreeFault;
 pub use finding::{find, side_of};
+pub use index_model::{Key, Side};
 pub use met::entry_link;
 pub use nodes::{LEVELS_BELOW, node_if_any, read_root};
 pub use place::DirPlace;
+pub use stream_map::{
+    Block, BlockKind, Body, Change, View, ViewFault, is_attribute_of, is_same_link, stream_of,
+};
+pub use volume_model::{Bytes, FileRef, Link, Node, Upcase, is_same_reference};
 pub use walking::walk;

@@ -1,7 +1,7 @@
 ghost use Rattle.std.specs.Prelude.{◌≡◌, ◌&&◌, ℕ, List, true, false, not, nat_lt, replicate, set, slice_index_or, IfOk, OnOk, Ok};
 ghost use Rattle.std.specs.Ordering.{nat_cmp};
 ghost use Rattle.std.specs.BTreeSet.{contains};
-ghost use Rattle.host_base.specs.Answers.{Gives};
+ghost use Rattle.volume_model.specs.host_base.Answers.{Gives};
 ghost use Rattle.index_model.specs.Indexes.{Place, entry_link, precedes};
 ghost use Rattle.index_model.specs.Walks.{nothing_met, entered, keyed, with_link, final, follows, named_event, found_event, all_judged};
 ghost use Rattle.index_tree.specs.Marks.{marks_of};
@@ -10,14 +10,12 @@ ghost use Rattle.index_tree.specs.Faults.{tree_cause};
 
 use crate::fault::TreeFault;
 use crate::place::DirPlace;
-use file_tree::{Link, LinkList};
 use index_model::Side;
-use record_model::{Entry, FileNameValue, ValueFault};
+use index_node::{Entry, FileNameValue, NamedValue, ValueFault};
 use std::alloc::{AllocError, Global};
 use std::collections::BTreeSet;
 use std::marker::Model;
-use std_values::NamedValue;
-use upcase_order::Upcase;
+use volume_model::{Link, LinkList, Upcase};
 
 /// What a walk has met so far: the links of keys, and the numbers of the blocks that were met.
 #[derive(Drop)]

@@ -1,6 +1,6 @@
 ghost use Rattle.std.specs.Prelude.{◌≡◌, IfOk, IfSome, Ok, length};
-ghost use Rattle.host_base.specs.Answers.{Gives, GivesOrFails};
-ghost use Rattle.record_model.specs.Nodes.{node_at, root_at};
+ghost use Rattle.volume_model.specs.host_base.Answers.{Gives, GivesOrFails};
+ghost use Rattle.stream_map.specs.record_model.Nodes.{node_at, root_at};
 ghost use Rattle.index_model.specs.Walks.{root_vcn};
 ghost use Rattle.index_model.specs.Indexes.{node_block, entries_of_node, is_index_body, node_of_body, node_of_block};
 ghost use Rattle.index_tree.specs.Places.{place_of};
@@ -8,11 +8,10 @@ ghost use Rattle.index_tree.specs.Faults.{tree_cause, FailsByView, FailsAsView, 
 
 use crate::fault::TreeFault;
 use crate::place::DirPlace;
-use block_view::{Block, Body, View, ViewFault};
-use disk_model::u64_at;
 use index_model::ROOT_VCN;
-use index_node::{EntryList, Node, NodeFault};
+use index_node::{EntryList, Node, NodeFault, u64_at};
 use std::alloc::Global;
+use stream_map::{Block, Body, View, ViewFault};
 
 // Reading of a node that lies in a block.
 

@@ -3,8 +3,8 @@ ghost use Rattle.index_model.specs.Indexes.{number_of, node_block};
 ghost use Rattle.index_tree.specs.Places.{place_of};
 
 use crate::blocks::BlockList;
-use block_view::Block;
-use host_base::Bytes;
+use stream_map::Block;
+use volume_model::Bytes;
 
 /// Where a directory's index lies.
 #[derive(Drop)]

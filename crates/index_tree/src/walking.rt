@@ -1,5 +1,5 @@
 ghost use Rattle.std.specs.Prelude.{◌≡◌, IfSome};
-ghost use Rattle.host_base.specs.Answers.{GivesOrFails};
+ghost use Rattle.volume_model.specs.host_base.Answers.{GivesOrFails};
 ghost use Rattle.index_model.specs.Indexes.{node_of_block};
 ghost use Rattle.index_model.specs.Walks.{all_judged, below, entry_met, kid_met, met_in, walk_of};
 ghost use Rattle.index_tree.specs.Places.{place_of};
@@ -10,12 +10,11 @@ use crate::fault::TreeFault;
 use crate::met::{Met, entry_link};
 use crate::nodes::{LEVELS_BELOW, read_node, read_root};
 use crate::place::DirPlace;
-use block_view::View;
-use file_tree::LinkList;
 use index_model::ROOT_VCN;
-use record_model::Entry;
+use index_node::Entry;
 use std::alloc::Global;
-use upcase_order::Upcase;
+use stream_map::View;
+use volume_model::{LinkList, Upcase};
 
 // What a walk goes over.
 #[derive(Clone, Copy)]

@@ -5,10 +5,10 @@ use Rattle.std.proofs.Math.Bool.{or-true}
 use Rattle.std.proofs.lemmas.Bool.{eq-eqb, eqb-true, cases_lt}
 use Rattle.std.proofs.lemmas.List.FromFn.{length-map-range_with_len}
 use Rattle.std.proofs.lemmas.List.{length-append, length-drop, length-take-le, take-append-drop, drop_at, drop_all}
-use Rattle.host_base.specs.Answers.{◌>>=◌, needs}
-use Rattle.disk_model.specs.Numbers.{field}
-use Rattle.disk_model.specs.Bytes.{AreBytes, all_zeros}
-use Rattle.disk_model.proofs.Fields.{AreBytes-drop}
+use Rattle.record_model.specs.host_base.Answers.{◌>>=◌, needs}
+use Rattle.record_model.specs.disk_model.Numbers.{field}
+use Rattle.record_model.specs.disk_model.Bytes.{AreBytes, all_zeros}
+use Rattle.record_model.proofs.disk_model.Fields.{AreBytes-drop}
 use Rattle.file_tree.specs.declared.journal.Usn.{Usn}
 use Rattle.journal_model.specs.declared.fault.UsnFault.{UsnFault}
 use Rattle.journal_model.specs.UsnRecords.{page_size, is_whole, usn_in, BeginsRecord}

@@ -2,7 +2,7 @@
 use Rattle.std.proofs.Common.{◌≡◌, ℕ, zero, suc, ◌+◌, ◌-◌, ◌*◌, ◌/◌, ◌%◌, ◌<◌, ◌≤◌, List, [], ◌∷◌, ◌++◌, map, take, drop, Ok, refl, sym, ap, ◌∙◌, arith}
 use Rattle.std.specs.Prelude.{min}
 use Rattle.std.specs.List.{range_with_len}
-use Rattle.host_base.specs.Answers.{◌>>=◌}
+use Rattle.record_model.specs.host_base.Answers.{◌>>=◌}
 use Rattle.journal_model.specs.UsnRecords.{page_size}
 use Rattle.journal_model.specs.Pages.{page_records, records_of}
 use Rattle.journal_model.specs.Journals.{bytes_between, placed, page_from, page_to, page_entries, joined, pages_before, journal_from, journal_in}

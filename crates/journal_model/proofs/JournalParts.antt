@@ -4,8 +4,8 @@ use Rattle.std.specs.List.{range_with_len}
 use Rattle.std.proofs.lemmas.Bool.{cases_lt}
 use Rattle.std.proofs.lemmas.List.{map-append, append-nil, get_or_past}
 use Rattle.std.proofs.lemmas.List.FromFn.{get_or-map-range_with_len, length-map-range_with_len}
-use Rattle.host_base.specs.Answers.{◌>>=◌}
-use Rattle.disk_model.specs.Bytes.{AreBytes, zeros, all_zeros}
+use Rattle.record_model.specs.host_base.Answers.{◌>>=◌}
+use Rattle.record_model.specs.disk_model.Bytes.{AreBytes, zeros, all_zeros}
 use Rattle.file_tree.specs.declared.journal.Usn.{Usn}
 use Rattle.journal_model.specs.declared.fault.UsnFault.{UsnFault}
 use Rattle.journal_model.specs.UsnRecords.{page_size}

@@ -1,3 +1,4 @@
+pub use Rattle.record_model.proofs as record_model
 pub mod UsnRead
 pub mod UsnSpelled
 pub mod UsnWorked

@@ -4,10 +4,10 @@ use Rattle.std.specs.Prelude.{◌==◌, if◌then◌else◌}
 use Rattle.std.specs.List.{list_all}
 use Rattle.std.proofs.lemmas.Bool.{and_parts, eqb-true}
 use Rattle.std.proofs.lemmas.List.{append_assoc, length-append, length-drop, length-take-le, take-append-drop, take_at, drop_at}
-use Rattle.host_base.specs.Answers.{◌>>=◌}
-use Rattle.disk_model.specs.Numbers.{field}
-use Rattle.disk_model.specs.Bytes.{AreBytes, zeros, all_zeros}
-use Rattle.disk_model.proofs.Fields.{field_same, AreBytes-drop}
+use Rattle.record_model.specs.host_base.Answers.{◌>>=◌}
+use Rattle.record_model.specs.disk_model.Numbers.{field}
+use Rattle.record_model.specs.disk_model.Bytes.{AreBytes, zeros, all_zeros}
+use Rattle.record_model.proofs.disk_model.Fields.{field_same, AreBytes-drop}
 use Rattle.record_model.proofs.Pieces.{AreBytes-take}
 use Rattle.file_tree.specs.declared.journal.Usn.{Usn}
 use Rattle.journal_model.specs.declared.fault.UsnFault.{UsnFault}

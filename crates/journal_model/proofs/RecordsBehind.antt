@@ -2,8 +2,8 @@
 use Rattle.std.proofs.Common.{◌≡◌, ℕ, ◌+◌, List, [], ◌∷◌, ◌++◌, length, Option, Some, None, Result, Ok, Err, refl, sym, ap, ◌∙◌, append_assoc, subst, arith}
 use Rattle.std.proofs.lemmas.List.{append-nil, length-append, replicate-append-replicate}
 use Rattle.std.proofs.lemmas.List.Elements.{filter_map-append}
-use Rattle.host_base.specs.Answers.{◌>>=◌}
-use Rattle.disk_model.specs.Bytes.{AreBytes, zeros}
+use Rattle.record_model.specs.host_base.Answers.{◌>>=◌}
+use Rattle.record_model.specs.disk_model.Bytes.{AreBytes, zeros}
 use Rattle.file_tree.specs.declared.journal.Usn.{Usn}
 use Rattle.journal_model.specs.declared.fault.UsnFault.{UsnFault}
 use Rattle.journal_model.specs.UsnRecords.{usn_spelling, FitsUsn}

@@ -6,14 +6,14 @@ use Rattle.std.specs.List.{list_all}
 use Rattle.std.proofs.lemmas.Bool.{and_parts, and_from, cases_lt, eqb-true, eq-eqb, ne_eqb, eqb-false, le-leb, leb-true}
 use Rattle.std.proofs.lemmas.List.{get_or_past, length-take-le, length-drop}
 use Rattle.std.proofs.lemmas.List.FromFn.{get_or-map-range_with_len}
-use Rattle.host_base.specs.declared.file_ref.FileRef.{FileRef}
-use Rattle.host_base.specs.Answers.{◌>>=◌, needs}
-use Rattle.host_base.specs.FileRefs.{unpacked}
-use Rattle.utf16_name.specs.Names.{name_of}
-use Rattle.utf16_name.proofs.Naming.{name_of-of_name}
-use Rattle.disk_model.specs.Numbers.{field}
-use Rattle.disk_model.specs.Bytes.{AreBytes, zeros, up8, all_zeros}
-use Rattle.disk_model.proofs.Fields.{field-lt, field-take, AreBytes-drop}
+use Rattle.record_model.specs.host_base.declared.file_ref.FileRef.{FileRef}
+use Rattle.record_model.specs.host_base.Answers.{◌>>=◌, needs}
+use Rattle.record_model.specs.host_base.FileRefs.{unpacked}
+use Rattle.record_model.specs.utf16_name.Names.{name_of}
+use Rattle.record_model.proofs.utf16_name.Naming.{name_of-of_name}
+use Rattle.record_model.specs.disk_model.Numbers.{field}
+use Rattle.record_model.specs.disk_model.Bytes.{AreBytes, zeros, up8, all_zeros}
+use Rattle.record_model.proofs.disk_model.Fields.{field-lt, field-take, AreBytes-drop}
 use Rattle.record_model.specs.Attributes.{units_at}
 use Rattle.record_model.proofs.Attributes.{length-units_at}
 use Rattle.record_model.proofs.FileNames.{name-of_ok}

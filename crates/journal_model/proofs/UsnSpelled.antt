@@ -8,11 +8,11 @@ use Rattle.std.proofs.lemmas.Grind.{flat_map-append}
 use Rattle.std.proofs.lemmas.Int.{ints, to_z-of_z, of_z-to_z}
 use Rattle.std.proofs.lemmas.List.{append-nil, length-append, length-drop, drop-drop, drop_at, take_at, take-append-drop}
 use Rattle.std.proofs.lemmas.List.Elements.{recursion_from_All}
-use Rattle.host_base.specs.declared.file_ref.FileRef.{FileRef}
-use Rattle.host_base.specs.FileRefs.{packed, unpacked}
-use Rattle.disk_model.specs.Numbers.{field, spell}
-use Rattle.disk_model.specs.Bytes.{AreBytes, part, zeros, up8}
-use Rattle.disk_model.proofs.Fields.{field-lt, spell-field}
+use Rattle.record_model.specs.host_base.declared.file_ref.FileRef.{FileRef}
+use Rattle.record_model.specs.host_base.FileRefs.{packed, unpacked}
+use Rattle.record_model.specs.disk_model.Numbers.{field, spell}
+use Rattle.record_model.specs.disk_model.Bytes.{AreBytes, part, zeros, up8}
+use Rattle.record_model.proofs.disk_model.Fields.{field-lt, spell-field}
 use Rattle.record_model.specs.Attributes.{units_at, unit_bytes, filled}
 use Rattle.record_model.proofs.UnitBytes.{field_here, units_here, length-unit_bytes, length-filled}
 use Rattle.record_model.proofs.RecordSpelling.{unpacked-packed}

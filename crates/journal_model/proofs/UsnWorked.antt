@@ -1,7 +1,7 @@
 -- The worked record, both ways.
 use Rattle.std.proofs.Common.{◌≡◌, ◌++◌, Some, Ok, refl}
-use Rattle.disk_model.specs.Numbers.{field, spell}
-use Rattle.disk_model.specs.Bytes.{zeros, all_zeros}
+use Rattle.record_model.specs.disk_model.Numbers.{field, spell}
+use Rattle.record_model.specs.disk_model.Bytes.{zeros, all_zeros}
 use Rattle.record_model.specs.Attributes.{units_at, unit_bytes, filled}
 use Rattle.journal_model.specs.UsnRecords.{is_whole, is_length, name_units, padding, has_layout, is_usn, usn_of, entry_in, usn_in, usn_at, head_spelling, usn_spelling}
 use Rattle.journal_model.specs.UsnVector.{worked_entry, worked_bytes}

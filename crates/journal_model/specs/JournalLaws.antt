@@ -1,7 +1,7 @@
 -- The laws of pages and of journals.
 use Rattle.std.specs.Prelude.{◌≡◌, ◌↔◌, ℕ, ◌*◌, ◌/◌, ◌+◌, ◌<◌, true, ◌≤◌, List, [], ◌∷◌, ◌++◌, length, min, Ok, Err}
-use Rattle.host_base.specs.Answers.{◌>>=◌}
-use Rattle.disk_model.specs.Bytes.{AreBytes, zeros}
+use Rattle.record_model.specs.host_base.Answers.{◌>>=◌}
+use Rattle.record_model.specs.disk_model.Bytes.{AreBytes, zeros}
 use Rattle.file_tree.specs.declared.journal.Usn.{Usn}
 use Rattle.journal_model.specs.declared.fault.UsnFault.{UsnFault}
 use Rattle.journal_model.specs.UsnRecords.{page_size, page_rest, usn_spelling, FitsUsn}

@@ -1,7 +1,7 @@
 -- The records of a stream that is a change journal, page after page. The stream is a byte at each offset.
 use Rattle.std.specs.Prelude.{ℕ, ◌+◌, ◌-◌, ◌*◌, ◌/◌, max, min, Bool, List, [], ◌∷◌, ◌++◌, length, map, Result, Ok, Err}
 use Rattle.std.specs.List.{range_with_len}
-use Rattle.host_base.specs.Answers.{◌>>=◌}
+use Rattle.record_model.specs.host_base.Answers.{◌>>=◌}
 use Rattle.file_tree.specs.declared.journal.Usn.{Usn}
 use Rattle.journal_model.specs.declared.fault.UsnFault.{UsnFault}
 use Rattle.journal_model.specs.declared.fault.UsnFault.TheVariants.{Cut, Shape, Memory}

@@ -1,3 +1,4 @@
+pub use Rattle.record_model.specs as record_model
 pub mod UsnRecords
 pub mod Pages
 pub mod Journals

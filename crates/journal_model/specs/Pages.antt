@@ -1,9 +1,9 @@
 -- The records of a page of the change journal: whole records one behind the other, and then zeros.
 use Rattle.std.specs.Prelude.{◌≡◌, ⊤, ℕ, zero, suc, ◌+◌, ◌==◌, ◌&&◌, ◌||◌, not, Bool, false, if◌then◌else◌, List, [], ◌∷◌, ◌++◌, length, map, drop, Option, Some, None, Result, Ok, Err}
 use Rattle.std.specs.List.{concat, filter_map}
-use Rattle.host_base.specs.Answers.{◌>>=◌}
-use Rattle.disk_model.specs.Numbers.{field}
-use Rattle.disk_model.specs.Bytes.{zeros, all_zeros}
+use Rattle.record_model.specs.host_base.Answers.{◌>>=◌}
+use Rattle.record_model.specs.disk_model.Numbers.{field}
+use Rattle.record_model.specs.disk_model.Bytes.{zeros, all_zeros}
 use Rattle.file_tree.specs.declared.journal.Usn.{Usn}
 use Rattle.journal_model.specs.declared.fault.UsnFault.{UsnFault}
 use Rattle.journal_model.specs.UsnRecords.{page_rest, is_whole, usn_in, IsRecord}

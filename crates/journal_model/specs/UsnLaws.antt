@@ -1,6 +1,6 @@
 -- The laws of records: the table against the reader, the spelling against both.
 use Rattle.std.specs.Prelude.{◌≡◌, ◌≢◌, ◌↔◌, ℕ, true, List, ◌++◌, length, Option, Some, Ok, Err}
-use Rattle.disk_model.specs.Bytes.{AreBytes}
+use Rattle.record_model.specs.disk_model.Bytes.{AreBytes}
 use Rattle.file_tree.specs.declared.journal.Usn.{Usn}
 use Rattle.journal_model.specs.declared.fault.UsnFault.TheVariants.{Cut, Shape}
 use Rattle.journal_model.specs.UsnRecords.{page_rest, is_whole, usn_at, IsUsn, BeginsRecord, usn_spelling, FitsUsn}

@@ -3,12 +3,12 @@
 -- 34 attributes, 38 bytes of the name, 3A offset of the name, 3C name, and zeros up to a multiple of 8.
 use Rattle.std.specs.Prelude.{◌≡◌, ◌≢◌, ℕ, ◌+◌, ◌-◌, ◌*◌, ◌/◌, ◌%◌, ◌^◌, ◌<◌, ◌≤◌, ◌==◌, ◌&&◌, nat_le, if◌then◌else◌, Bool, List, ◌++◌, length, take, drop, is_ok, Option, Some, None, Result, Ok, FitsSigned}
 use Rattle.std.specs.Int.{w64, cast_signed, cast_unsigned}
-use Rattle.host_base.specs.Answers.{Cause, refused, no_memory, ◌>>=◌, needs}
-use Rattle.host_base.specs.FileRefs.{packed, unpacked}
-use Rattle.utf16_name.specs.Lawful.{IsName}
-use Rattle.utf16_name.specs.Names.{name_of}
-use Rattle.disk_model.specs.Numbers.{field, spell}
-use Rattle.disk_model.specs.Bytes.{zeros, all_zeros, up8}
+use Rattle.record_model.specs.host_base.Answers.{Cause, refused, no_memory, ◌>>=◌, needs}
+use Rattle.record_model.specs.host_base.FileRefs.{packed, unpacked}
+use Rattle.record_model.specs.utf16_name.Lawful.{IsName}
+use Rattle.record_model.specs.utf16_name.Names.{name_of}
+use Rattle.record_model.specs.disk_model.Numbers.{field, spell}
+use Rattle.record_model.specs.disk_model.Bytes.{zeros, all_zeros, up8}
 use Rattle.record_model.specs.Attributes.{units_at, unit_bytes, filled}
 use Rattle.file_tree.specs.declared.journal.Usn.{Usn}
 use Rattle.journal_model.specs.declared.fault.UsnFault.{UsnFault}

@@ -1,6 +1,6 @@
 -- A worked record: file 26/1 in 25/1 with the name `f` was created and closed.
 use Rattle.std.specs.Prelude.{◌≡◌, ℕ, pos, List, [], ◌∷◌, ◌++◌, Some, Ok}
-use Rattle.disk_model.specs.Bytes.{zeros}
+use Rattle.record_model.specs.disk_model.Bytes.{zeros}
 use Rattle.file_tree.specs.declared.journal.Usn.{Usn}
 use Rattle.journal_model.specs.UsnRecords.{usn_at, usn_spelling}
 

@@ -14,3 +14,4 @@ pub use laws::{
     ends_are_records, journal_is_pages, page_is_table, records_join, usn_is_table, usn_read_again,
     usn_vector,
 };
+pub use record_model::units_at;

@@ -2,7 +2,7 @@
 use Rattle.std.proofs.Common.{◌≡◌, ℕ, ◌+◌, ◌*◌, ◌<◌, ◌≤◌, Bool, true, false, cond, ltb, Option, Some, None, sym, ap, ◌∙◌, subst, inl, inr, arith}
 use Rattle.std.proofs.lemmas.Bool.{cases_lt, lt-ltb, le-ltb}
 use Rattle.std.specs.Prelude.{unwrap_or}
-use Rattle.log_page.specs.declared.places.LogPlace.{LogPlace}
+use Rattle.log_reading.specs.log_page.declared.places.LogPlace.{LogPlace}
 use Rattle.log_reading.specs.LogPages.{sector_in, sector_below, log_sector}
 use Rattle.log_reading.specs.Rings.{IsPageAt, IsRingPlace}
 use Rattle.log_area.specs.Areas.{page_first}

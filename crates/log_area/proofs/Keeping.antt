@@ -5,8 +5,8 @@ use Rattle.std.specs.List.{range_with_len}
 use Rattle.std.proofs.Math.Nat.{div-eq_of_lt}
 use Rattle.std.proofs.lemmas.List.{length-replicate}
 use Rattle.std.proofs.lemmas.List.FromFn.{length-map-range_with_len, get_or-map-range_with_len}
-use Rattle.log_page.specs.declared.places.LogPlace.{LogPlace}
-use Rattle.log_page.specs.Places.{sequence_bits}
+use Rattle.log_reading.specs.log_page.declared.places.LogPlace.{LogPlace}
+use Rattle.log_reading.specs.log_page.Places.{sequence_bits}
 use Rattle.log_reading.specs.Rings.{IsRingPlace}
 use Rattle.log_area.specs.Areas.{RingPageOf, LogAreaOf, IsLogArea, ring_size, is_filling, no_page, page_first, area_of}
 use Rattle.log_area.proofs.Numbering.{next_turn}

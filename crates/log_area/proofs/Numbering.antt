@@ -5,12 +5,12 @@ use Rattle.std.proofs.Math.Pow.{pow_mono}
 use Rattle.std.proofs.lemmas.Nat.{pow-add}
 use Rattle.std.specs.Prelude.{nat_lt, ◌↔◌}
 use Rattle.std.proofs.lemmas.Bool.{cases_lt, le-leb, lt-leb, lt-ltb, le-ltb}
-use Rattle.log_model.specs.declared.entry.Entry.{Entry}
-use Rattle.log_model.specs.Entries.{entry_size}
-use Rattle.log_page.specs.Places.{page_bytes, first_page, digits, place_bits, sequence_bits, lsn_at, lap_of, page_of}
-use Rattle.log_page.proofs.PlacesFit.{log_fits}
-use Rattle.log_page.proofs.Shifts.{shifted}
-use Rattle.log_page.proofs.Readings.{size_some}
+use Rattle.log_reading.specs.log_model.declared.entry.Entry.{Entry}
+use Rattle.log_reading.specs.log_model.Entries.{entry_size}
+use Rattle.log_reading.specs.log_page.Places.{page_bytes, first_page, digits, place_bits, sequence_bits, lsn_at, lap_of, page_of}
+use Rattle.log_reading.proofs.log_page.PlacesFit.{log_fits}
+use Rattle.log_reading.proofs.log_page.Shifts.{shifted}
+use Rattle.log_reading.proofs.log_page.Readings.{size_some}
 use Rattle.log_area.specs.Areas.{LogAreaOf, IsLogArea, ring_size, lap_at, number_lsn, next_number, next_at, next_lsn, IsOldest}
 
 pub few_bits : (pages : ℕ) → place_bits pages ≤ 61

@@ -6,8 +6,8 @@ use Rattle.disk_model.specs.Bytes.{zeros}
 use Rattle.disk_model.specs.Fixups.{array_at, array_count, is_in_shape}
 use Rattle.disk_model.proofs.Fields.{field-append}
 use Rattle.disk_model.proofs.Protection.{shape_from}
-use Rattle.log_page.specs.PageSpellings.{page_front}
-use Rattle.log_page.proofs.Spelled.{field_here}
+use Rattle.log_reading.specs.log_page.PageSpellings.{page_front}
+use Rattle.log_reading.proofs.log_page.Spelled.{field_here}
 
 length-front : (last free : ℕ) → length (page_front last free) ≡ 0x40
 unfolding page_front zeros spell

@@ -2,13 +2,13 @@
 use Rattle.std.specs.Prelude.{◌≡◌, ℕ, ◌+◌, ◌-◌, ◌*◌, ◌/◌, ◌%◌, ◌^◌, ◌<◌, ◌≤◌, ◌==◌, ◌&&◌, Bool, true, not, min, nat_le, nat_lt, if◌then◌else◌, List, ◌++◌, drop, length, map, replicate, slice_index, slice_index_or, slice_set, Option, Some, None, IfSome, unwrap_or}
 use Rattle.std.specs.List.{range_with_len}
 use Rattle.disk_model.specs.Bytes.{zeros, written}
-use Rattle.log_model.specs.declared.entry.Entry.{Entry}
-use Rattle.log_model.specs.Entries.{entry_size, entry_spelling}
-use Rattle.log_page.specs.declared.places.LogPlace.{LogPlace}
-use Rattle.log_page.specs.declared.restart.Restart.{Restart}
-use Rattle.log_page.specs.Places.{page_bytes, first_page, entries_at, sequence_bits, lsn_at, lap_of, page_of, is_in_ring}
-use Rattle.log_page.specs.PageSpellings.{page_front}
-use Rattle.log_page.specs.Restarts.{FitsRestart}
+use Rattle.log_reading.specs.log_model.declared.entry.Entry.{Entry}
+use Rattle.log_reading.specs.log_model.Entries.{entry_size, entry_spelling}
+use Rattle.log_reading.specs.log_page.declared.places.LogPlace.{LogPlace}
+use Rattle.log_reading.specs.log_page.declared.restart.Restart.{Restart}
+use Rattle.log_reading.specs.log_page.Places.{page_bytes, first_page, entries_at, sequence_bits, lsn_at, lap_of, page_of, is_in_ring}
+use Rattle.log_reading.specs.log_page.PageSpellings.{page_front}
+use Rattle.log_reading.specs.log_page.Restarts.{FitsRestart}
 use Rattle.log_reading.specs.LogPages.{log_sector}
 use Rattle.log_area.specs.declared.restart.SentRestart.{SentRestart}
 

@@ -5,7 +5,7 @@ use Rattle.disk_model.specs.Bytes.{written}
 use Rattle.disk_model.specs.Sectors.{sector_of, raw_from}
 use Rattle.sector_device.specs.Moments.{moment_after, Changes, Writes}
 use Rattle.sector_device.specs.Sectors.{sectors_of, IsTornBy}
-use Rattle.log_page.specs.CheckWords.{IsCheckWord}
+use Rattle.log_reading.specs.log_page.CheckWords.{IsCheckWord}
 
 -- the device is as it was but for its moment, which is that after one call
 pub record IsAsked {D : Type 0} (gives : D → Option (List (List ℕ))) (changes : D → Changes) (moment : D → ℕ) (old new : D) : Type 0 where

@@ -1,7 +1,7 @@
 //! The ring in memory.
 ghost use Rattle.std.specs.Prelude.{◌≡◌, ◌+◌, ◌-◌, ◌%◌, ◌^◌, ◌<◌, ◌≤◌, ◌↔◌, true, IfOk, OnOk, IfErr, OnErr, IsErr, length};
-ghost use Rattle.log_page.specs.Places.{sequence_bits};
-ghost use Rattle.log_model.specs.Entries.{entry_size, FitsEntry};
+ghost use Rattle.log_reading.specs.log_page.Places.{sequence_bits};
+ghost use Rattle.log_reading.specs.log_model.Entries.{entry_size, FitsEntry};
 ghost use Rattle.log_reading.specs.Rings.{IsRingPlace};
 ghost use Rattle.log_area.specs.Areas.{ring_size, lap_at, place_at, number_lsn, is_filling, fits, next_number, next_at, next_lsn, free_pages, needs_page, new_area, appended, sealed_area};
 
@@ -10,8 +10,8 @@ use crate::page::{ENTRIES, PAGE, RingPage};
 use crate::places::{empty_pages, page_firsts};
 use crate::restart::SentRestart;
 use crate::room::zeroed;
-use host_base::Memory;
-use log_page::{Entry, LogPlace, digits, sequence_bits};
+use disk_model::Memory;
+use log_reading::{Entry, LogPlace, digits, sequence_bits};
 use std::alloc::Global;
 use std::marker::Model;
 

@@ -17,7 +17,9 @@ mod sending;
 mod writing;
 
 pub use area::LogArea;
+pub use disk_model::{Block, BlockKind, Change, put_bytes};
 pub use fault::NoRoom;
-pub use log_page::{Entry, LogPlace, Restart};
+pub use log_reading::{Act, Entry, LogPlace, Restart};
 pub use page::RingPage;
 pub use restart::SentRestart;
+pub use sector_device::{Device, LAST_MOMENT, SECTOR_BYTES};

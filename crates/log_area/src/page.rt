@@ -1,13 +1,11 @@
 //! A page of the ring in memory.
 ghost use Rattle.std.specs.Prelude.{◌≡◌, ◌+◌, ◌^◌, ◌<◌, ◌≤◌, length, IfOk};
-ghost use Rattle.fixup_record.specs.Protecting.{protected_bytes};
-ghost use Rattle.log_model.specs.Entries.{entry_size, FitsEntry};
+ghost use Rattle.log_reading.specs.fixup_record.Protecting.{protected_bytes};
+ghost use Rattle.log_reading.specs.log_model.Entries.{entry_size, FitsEntry};
 ghost use Rattle.log_area.specs.Areas.{no_page, page_with, made_page};
 
 use crate::room::{clear, zeroed};
-use fixup_record::protect;
-use log_page::{Entry, seal_page};
-use log_record::put;
+use log_reading::{Entry, protect, put, seal_page};
 use std::alloc::{AllocError, Global};
 use std::marker::Model;
 

@@ -6,7 +6,7 @@ ghost use Rattle.log_reading.specs.Rings.{IsRingPlace};
 ghost use Rattle.log_area.specs.Areas.{no_page, page_first};
 
 use crate::page::RingPage;
-use log_page::{Extent, LogPlace};
+use log_reading::{Extent, LogPlace};
 use std::alloc::{AllocError, Global};
 
 // The sector with this number of those that the runs name in order, where that lies below a limit.

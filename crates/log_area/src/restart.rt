@@ -1,4 +1,4 @@
-use log_page::Restart;
+use log_reading::Restart;
 
 /// A restart page that was sent to its place, perhaps in part, and isn't known to stand there.
 #[derive(Clone, Copy, Debug, PartialEq, Eq)]

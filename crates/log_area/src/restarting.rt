@@ -1,18 +1,17 @@
 //! Restart pages, which name the oldest place.
 ghost use Rattle.std.specs.Prelude.{◌≡◌, ◌↔◌, true, false, ◌+◌, ◌<◌, ◌≤◌, ◌^◌, None, OnOk, OnErr, IfSome, length};
-ghost use Rattle.host_base.specs.Causes.{FailsByCause};
-ghost use Rattle.fixup_record.specs.Protecting.{protected_bytes};
-ghost use Rattle.log_page.specs.Places.{sequence_bits, lap_of, is_in_ring};
-ghost use Rattle.log_page.specs.Restarts.{restart_spelling, FitsRestart};
+ghost use Rattle.disk_model.specs.host_base.Causes.{FailsByCause};
+ghost use Rattle.log_reading.specs.fixup_record.Protecting.{protected_bytes};
+ghost use Rattle.log_reading.specs.log_page.Places.{sequence_bits, lap_of, is_in_ring};
+ghost use Rattle.log_reading.specs.log_page.Restarts.{restart_spelling, FitsRestart};
 ghost use Rattle.log_area.specs.Areas.{IsWord, lap_at, next_number, next_lsn, number_of, IsOldest, restart_sector, sent_word, naming_page, page_to_send, named_area};
 ghost use Rattle.log_area.specs.Calls.{Sends, IsSentOrNot};
 
 use crate::area::LogArea;
 use crate::restart::SentRestart;
 use crate::sending::{choose, send};
-use fixup_record::protect;
-use host_base::Failed;
-use log_page::{Restart, is_in_ring, lap_of, offset_of};
+use disk_model::Failed;
+use log_reading::{Restart, is_in_ring, lap_of, offset_of, protect};
 use sector_device::Device;
 
 // Writes a restart page as it stands on the disk, protected by this check word.

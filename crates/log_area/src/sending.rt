@@ -1,14 +1,14 @@
 //! A page that is sent to its place.
 ghost use Rattle.std.specs.Prelude.{◌≡◌, ◌+◌, ◌*◌, ◌<◌, ◌≤◌, None, IfOk, IfSome, OnOk, OnErr, IsErr, length};
 ghost use Rattle.disk_model.specs.Sectors.{sector_of, raw_from};
-ghost use Rattle.host_base.specs.Causes.{FailsByCause};
+ghost use Rattle.disk_model.specs.host_base.Causes.{FailsByCause};
 ghost use Rattle.sector_device.specs.Moments.{moment_after};
-ghost use Rattle.log_page.specs.CheckWords.{IsCheckWord};
+ghost use Rattle.log_reading.specs.log_page.CheckWords.{IsCheckWord};
 ghost use Rattle.log_area.specs.Areas.{IsWord};
 ghost use Rattle.log_area.specs.Calls.{IsAsked, IsCheckOf, sending_moment, Sends};
 
-use host_base::Failed;
-use log_page::pick_check;
+use disk_model::Failed;
+use log_reading::pick_check;
 use sector_device::Device;
 
 /// Reads the page that stands from this sector on into the room, and picks the check word of one

@@ -1,14 +1,14 @@
 //! The ring's calls of a device.
 ghost use Rattle.std.specs.Prelude.{◌≡◌, ◌+◌, ◌<◌, ◌≤◌, OnOk, OnErr};
-ghost use Rattle.host_base.specs.Causes.{FailsByCause};
+ghost use Rattle.disk_model.specs.host_base.Causes.{FailsByCause};
 ghost use Rattle.sector_device.specs.Moments.{moment_after, Syncs};
 ghost use Rattle.log_area.specs.Areas.{written_area, synced_area, page_sector, held_page, made_page};
-ghost use Rattle.fixup_record.specs.Protecting.{protected_bytes};
+ghost use Rattle.log_reading.specs.fixup_record.Protecting.{protected_bytes};
 ghost use Rattle.log_area.specs.Calls.{Sends, IsSentOrNot};
 
 use crate::area::LogArea;
 use crate::sending::{choose, send};
-use host_base::Failed;
+use disk_model::Failed;
 use sector_device::Device;
 
 impl LogArea {

@@ -6,10 +6,10 @@ use Rattle.std.proofs.lemmas.Bool.{cases_Bool, cases_lt}
 use Rattle.std.proofs.lemmas.List.{ext_get_or, get_or-take, get_or_past, length-take}
 use Rattle.std.proofs.lemmas.Nat.{le-div}
 use Rattle.std.proofs.Math.Nat.{one-le-pow, div-mul-le_self, div-lt_iff_lt-mul}
-use Rattle.disk_model.specs.Numbers.{field}
-use Rattle.disk_model.specs.Fixups.{restored}
-use Rattle.disk_model.proofs.Fields.{field_same}
-use Rattle.disk_model.proofs.Protection.{length-restored, slice_index-restored, true_byte-within}
+use Rattle.log_page.specs.disk_model.Numbers.{field}
+use Rattle.log_page.specs.disk_model.Fixups.{restored}
+use Rattle.log_page.proofs.disk_model.Fields.{field_same}
+use Rattle.log_page.proofs.disk_model.Protection.{length-restored, slice_index-restored, true_byte-within}
 use Rattle.log_page.specs.declared.restart.Restart.{Restart}
 use Rattle.log_page.specs.Places.{page_bytes, first_page, entries_at, place_bits, lsn_at, lap_of, page_of, page_lsn, is_in_ring}
 use Rattle.log_page.specs.RecordPages.{no_reading, record_signature, last_lsn, is_whole_page}

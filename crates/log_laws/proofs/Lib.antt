@@ -1,3 +1,4 @@
+pub use Rattle.log_page.proofs as log_page
 pub mod Standing
 pub mod Behind
 pub mod Ringing

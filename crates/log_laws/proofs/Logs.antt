@@ -2,7 +2,7 @@
 use Rattle.std.proofs.Common.{◌≡◌, ◌⊎◌, ℕ, ◌-◌, ◌<◌, ◌≤◌, true, false, List, [], ◌++◌, length, get_or, Option, Some, None, refl, sym, ap, ◌∙◌, subst, inl, inr, arith}
 use Rattle.std.proofs.lemmas.Bool.{cases_lt, and_parts, leb-true, ltb-true}
 use Rattle.std.proofs.lemmas.List.{append-nil}
-use Rattle.log_model.specs.declared.entry.Entry.{Entry}
+use Rattle.log_page.specs.log_model.declared.entry.Entry.{Entry}
 use Rattle.log_page.specs.Places.{first_page, lap_of, page_of, is_in_ring}
 use Rattle.log_page.specs.RecordPages.{Reading, no_reading}
 use Rattle.log_page.specs.LiveLogs.{live_log, log_from, start_in_page}

@@ -3,9 +3,9 @@ use Rattle.std.proofs.Common.{◌≡◌, ◌⊎◌, ℕ, zero, suc, ◌+◌, ◌
 use Rattle.std.specs.Prelude.{⊤, nat_eq, is_ok, if◌then◌else◌, ◌==◌, ◌&&◌}
 use Rattle.std.specs.List.{starts_with}
 use Rattle.std.proofs.lemmas.Bool.{cases_Bool, and_parts, eqb-true, ne_eqb}
-use Rattle.disk_model.specs.Fixups.{fixup_of, restored}
-use Rattle.disk_model.proofs.Protection.{length-restored}
-use Rattle.log_model.specs.declared.entry.Entry.{Entry}
+use Rattle.log_page.specs.disk_model.Fixups.{fixup_of, restored}
+use Rattle.log_page.proofs.disk_model.Protection.{length-restored}
+use Rattle.log_page.specs.log_model.declared.entry.Entry.{Entry}
 use Rattle.log_page.specs.Places.{first_page, entries_at, lap_of, page_lsn, page_after, lap_after}
 use Rattle.log_page.specs.RecordPages.{Reading, no_reading, record_signature, first_lsn, last_lsn, is_record_page, is_whole_page, page_reading}
 use Rattle.log_page.specs.LiveLogs.{followed_by, log_from}

@@ -3,12 +3,12 @@ use Rattle.std.proofs.Common.{◌≡◌, ℕ, zero, suc, ◌+◌, ◌<◌, ◌�
 use Rattle.std.specs.Prelude.{◌||◌}
 use Rattle.std.proofs.lemmas.Bool.{cases_Bool, eq-eqb, eqb-true, lt-ltb, ltb-true}
 use Rattle.std.proofs.lemmas.List.{length-take, length-drop}
-use Rattle.disk_model.specs.Fixups.{restored}
-use Rattle.disk_model.proofs.Protection.{length-restored}
-use Rattle.log_model.specs.declared.entry.Entry.{Entry}
-use Rattle.log_model.specs.declared.fault.EntryFault.{EntryFault}
-use Rattle.log_model.specs.Entries.{entry_at, entry_size}
-use Rattle.log_model.proofs.EntryTables.{read_table, table_read}
+use Rattle.log_page.specs.disk_model.Fixups.{restored}
+use Rattle.log_page.proofs.disk_model.Protection.{length-restored}
+use Rattle.log_page.specs.log_model.declared.entry.Entry.{Entry}
+use Rattle.log_page.specs.log_model.declared.fault.EntryFault.{EntryFault}
+use Rattle.log_page.specs.log_model.Entries.{entry_at, entry_size}
+use Rattle.log_page.proofs.log_model.EntryTables.{read_table, table_read}
 use Rattle.log_page.specs.Places.{entries_at}
 use Rattle.log_page.specs.RecordPages.{Reading, no_reading, foreign_here, entry_before, entry_or_foreign, free_at, lsn_of, bytes_from, entry_in, goes_on, entries_from, page_reading}
 use Rattle.log_page.proofs.Readings.{size_some}

@@ -1,2 +1,3 @@
+pub use Rattle.log_page.specs as log_page
 pub mod Tables
 pub mod NextLaps

@@ -2,10 +2,10 @@
 -- entries one behind the other.
 use Rattle.std.specs.Prelude.{◌≡◌, ◌≢◌, ◌⊎◌, ◌↔◌, ℕ, suc, ◌+◌, ◌-◌, ◌*◌, ◌^◌, ◌<◌, ◌≤◌, ◌==◌, nat_le, Bool, true, false, if◌then◌else◌, List, [], ◌∷◌, ◌++◌, length, get_or, Option, Some, None}
 use Rattle.std.specs.List.{flat_map}
-use Rattle.disk_model.specs.Fixups.{restored}
-use Rattle.log_model.specs.declared.entry.Entry.{Entry}
-use Rattle.log_model.specs.Entries.{entry_size}
-use Rattle.log_model.specs.EntryLaws.{BeginsEntry}
+use Rattle.log_page.specs.disk_model.Fixups.{restored}
+use Rattle.log_page.specs.log_model.declared.entry.Entry.{Entry}
+use Rattle.log_page.specs.log_model.Entries.{entry_size}
+use Rattle.log_page.specs.log_model.EntryLaws.{BeginsEntry}
 use Rattle.log_page.specs.Places.{page_bytes, first_page, entries_at, lap_of, page_of, page_lsn, is_in_ring, page_after, lap_after}
 use Rattle.log_page.specs.RecordPages.{Reading, no_reading, free_at, lsn_of, bytes_from, is_whole_page, page_reading}
 use Rattle.log_page.specs.LiveLogs.{live_log, start_in_page}

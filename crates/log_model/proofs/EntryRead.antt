@@ -4,7 +4,7 @@ use Rattle.std.specs.Prelude.{nat_le, nat_lt, ◌==◌, ◌&&◌, if◌then◌el
 use Rattle.std.specs.List.{list_all}
 use Rattle.std.proofs.lemmas.Bool.{and_parts, and_from, eqb-true, eq-eqb, le-leb, leb-true, lt-ltb, ltb-true}
 use Rattle.std.proofs.lemmas.List.{length-take-le, length-drop, drop-take}
-use Rattle.host_base.specs.Answers.{◌>>=◌, needs}
+use Rattle.disk_model.specs.host_base.Answers.{◌>>=◌, needs}
 use Rattle.disk_model.specs.Numbers.{field}
 use Rattle.disk_model.specs.Bytes.{part, zeros, up8, all_zeros}
 use Rattle.log_model.specs.declared.entry.Entry.{Entry}

@@ -1,6 +1,6 @@
 -- What chains of tests say that go on to their end, and when they do.
 use Rattle.std.proofs.Common.{◌≡◌, Bool, true, false, Result, Ok, Err, refl}
-use Rattle.host_base.specs.Answers.{◌>>=◌, needs}
+use Rattle.disk_model.specs.host_base.Answers.{◌>>=◌, needs}
 
 module _ {F : Type 0} where
   pub first_passed : {B : Type 0} (p : Bool) (e : F) (next : Unit {0} → Result B F) (y : B) → (needs p e >>= next) ≡ Ok y → (p ≡ true) × (next tt ≡ Ok y)

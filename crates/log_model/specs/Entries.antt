@@ -5,7 +5,7 @@
 -- 40 first byte in the body, 42 kind of block, 44 sector in the cluster, 46 zero, 48 VCN, 50 LCN, 58 redo bytes and then undo bytes, each with
 -- zeros up to a multiple of 8. The offsets at 34 and 38 count from 30. Bytes that no field names aren't looked at.
 use Rattle.std.specs.Prelude.{◌≡◌, ◌⊎◌, ℕ, ◌+◌, ◌-◌, ◌*◌, ◌/◌, ◌%◌, ◌^◌, ◌<◌, ◌≤◌, ◌==◌, ◌&&◌, nat_le, nat_lt, if◌then◌else◌, Bool, true, List, ◌++◌, length, Result, Ok, Err}
-use Rattle.host_base.specs.Answers.{Cause, refused, no_memory, ◌>>=◌, needs}
+use Rattle.disk_model.specs.host_base.Answers.{Cause, refused, no_memory, ◌>>=◌, needs}
 use Rattle.disk_model.specs.Numbers.{field, spell}
 use Rattle.disk_model.specs.Bytes.{part, zeros, all_zeros, up8}
 use Rattle.log_model.specs.declared.entry.Entry.{Entry}

@@ -1,3 +1,4 @@
+pub use Rattle.disk_model.specs as disk_model
 pub mod Entries
 pub mod EntryLaws
 pub mod Logs

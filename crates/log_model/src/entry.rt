@@ -2,7 +2,7 @@ ghost use Rattle.std.specs.Prelude.{◌≡◌, ◌≤◌, ◌<◌, ◌^◌, leng
 ghost use Rattle.disk_model.specs.Bytes.{up8};
 ghost use Rattle.log_model.specs.Entries.{act_size, entry_size, FitsAct, FitsEntry};
 
-use host_base::Bytes;
+use disk_model::Bytes;
 
 /// What an entry does.
 #[derive(Debug, PartialEq, Eq, Drop)]

@@ -1,3 +1,5 @@
+pub use Rattle.disk_model.proofs as disk_model
+pub use Rattle.log_record.proofs.log_model
 pub mod Words
 pub mod Shifts
 pub mod PlacesFit

@@ -9,7 +9,7 @@ use Rattle.disk_model.specs.Bytes.{AreBytes}
 use Rattle.disk_model.proofs.Fields.{field_same, field-lt}
 use Rattle.disk_model.proofs.Protection.{read_parts, whole_sector, length-restored, slice_index-restored}
 use Rattle.log_page.specs.CheckWords.{is_last_word}
-use Rattle.log_model.specs.declared.entry.Entry.{Entry}
+use Rattle.log_record.specs.log_model.declared.entry.Entry.{Entry}
 use Rattle.log_page.specs.declared.fault.PageFault.TheVariants.{NotWhole}
 use Rattle.log_page.specs.RecordPages.{Reading, first_lsn, is_whole_page, AppendsPage}
 use Rattle.log_page.specs.PageLaws.{IsPartWritten}

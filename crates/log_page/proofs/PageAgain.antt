@@ -13,9 +13,9 @@ use Rattle.disk_model.proofs.Protection.{shape_from, not_in_array, length-restor
 use Rattle.fixup_record.specs.Protecting.{protected_bytes}
 use Rattle.fixup_record.specs.ProtectLaws.{IsUndone}
 use Rattle.fixup_record.proofs.Protected.{undone, stays, length-protected}
-use Rattle.log_model.specs.declared.entry.Entry.{Entry}
-use Rattle.log_model.specs.Entries.{entry_at, entry_size, entry_spelling, FitsEntry}
-use Rattle.log_model.proofs.EntrySpelled.{length-zeros, length-entry_spelling, spelled_table, spelled_read}
+use Rattle.log_record.specs.log_model.declared.entry.Entry.{Entry}
+use Rattle.log_record.specs.log_model.Entries.{entry_at, entry_size, entry_spelling, FitsEntry}
+use Rattle.log_record.proofs.log_model.EntrySpelled.{length-zeros, length-entry_spelling, spelled_table, spelled_read}
 use Rattle.log_page.specs.declared.fault.PageFault.{PageFault}
 use Rattle.log_page.specs.declared.fault.PageFault.TheVariants.{NotWhole}
 use Rattle.log_page.specs.Places.{page_bytes, entries_at, lap_of, page_lsn}

@@ -5,7 +5,7 @@ use Rattle.std.specs.List.{starts_with}
 use Rattle.std.specs.Cmp.Lexicographic.{pointwise}
 use Rattle.std.proofs.lemmas.Bool.{eq-eqb, le-ltb, lt-leb, and_from}
 use Rattle.std.proofs.lemmas.List.{ext_get_or, get_or-take, get_or-drop, length-take, length-drop}
-use Rattle.host_base.specs.Answers.{◌>>=◌, needs}
+use Rattle.disk_model.specs.host_base.Answers.{◌>>=◌, needs}
 use Rattle.disk_model.specs.Numbers.{field}
 use Rattle.disk_model.specs.Bytes.{part}
 use Rattle.disk_model.specs.Fixups.{array_at, array_count, sector_count, restored}

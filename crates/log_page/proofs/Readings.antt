@@ -3,10 +3,10 @@ use Rattle.std.proofs.Common.{◌≡◌, ℕ, zero, suc, ◌+◌, ◌-◌, ◌�
 use Rattle.std.specs.Prelude.{All, IfSome}
 use Rattle.std.proofs.lemmas.List.{append-nil, length-take, length-drop}
 use Rattle.std.proofs.lemmas.List.Elements.{All-push}
-use Rattle.log_model.specs.declared.entry.Entry.{Entry}
-use Rattle.log_model.specs.declared.entry.Act.{Act}
-use Rattle.log_model.specs.declared.entry.Act.TheVariants.{Update, Commit}
-use Rattle.log_model.specs.Entries.{act_size, entry_size, FitsEntry}
+use Rattle.log_record.specs.log_model.declared.entry.Entry.{Entry}
+use Rattle.log_record.specs.log_model.declared.entry.Act.{Act}
+use Rattle.log_record.specs.log_model.declared.entry.Act.TheVariants.{Update, Commit}
+use Rattle.log_record.specs.log_model.Entries.{act_size, entry_size, FitsEntry}
 use Rattle.log_page.specs.RecordPages.{Reading, no_reading, foreign_here, entry_or_foreign, lsn_of, bytes_from, entry_in, goes_on, entries_from, AppendsFront}
 
 -- a reading with entries that were read before

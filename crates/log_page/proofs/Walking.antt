@@ -1,7 +1,7 @@
 -- Steps of a walk over the pages of the ring: what was read before, and what is left to read.
 use Rattle.std.proofs.Common.{◌≡◌, ℕ, zero, suc, Bool, true, false, cond, List, ◌++◌, Option, Some, None, Result, Ok, Err, refl, sym, ap, ◌∙◌, append_assoc}
 use Rattle.std.proofs.lemmas.List.{append-nil}
-use Rattle.log_model.specs.declared.entry.Entry.{Entry}
+use Rattle.log_record.specs.log_model.declared.entry.Entry.{Entry}
 use Rattle.log_page.specs.declared.fault.PageFault.{PageFault}
 use Rattle.log_page.specs.declared.fault.PageFault.TheVariants.{NotWhole, Foreign}
 use Rattle.log_page.specs.Places.{entries_at, page_lsn, page_after, lap_after}

@@ -1,3 +1,6 @@
+pub use Rattle.disk_model.specs as disk_model
+pub use Rattle.fixup_record.specs as fixup_record
+pub use Rattle.log_record.specs.log_model
 pub mod Places
 pub mod PlaceLaws
 pub mod Restarts

@@ -5,8 +5,8 @@ use Rattle.disk_model.specs.Numbers.{spell}
 use Rattle.disk_model.specs.Bytes.{zeros, written}
 use Rattle.disk_model.specs.Fixups.{is_in_shape}
 use Rattle.fixup_record.specs.Protecting.{protected_bytes}
-use Rattle.log_model.specs.declared.entry.Entry.{Entry}
-use Rattle.log_model.specs.Entries.{entry_size, entry_spelling, FitsEntry}
+use Rattle.log_record.specs.log_model.declared.entry.Entry.{Entry}
+use Rattle.log_record.specs.log_model.Entries.{entry_size, entry_spelling, FitsEntry}
 use Rattle.log_page.specs.Places.{page_bytes, entries_at, lap_of, page_lsn}
 use Rattle.log_page.specs.RecordPages.{record_signature, lsn_of, is_whole_page, page_reading, page_entries}
 use Rattle.log_page.specs.LiveLogs.{said_lsn}

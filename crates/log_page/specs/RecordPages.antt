@@ -1,12 +1,12 @@
 -- Record pages of a log: when one is whole at its place, and its entries.
 use Rattle.std.specs.Prelude.{◌≡◌, ℕ, zero, suc, ◌+◌, ◌-◌, ◌/◌, ◌==◌, ◌&&◌, ◌||◌, Bool, true, false, nat_eq, nat_lt, if◌then◌else◌, List, [], ◌∷◌, ◌++◌, length, take, drop, Option, Some, None, Result, Ok, Err, is_ok, codes}
 use Rattle.std.specs.List.{starts_with}
-use Rattle.host_base.specs.Answers.{Cause, refused, no_memory}
+use Rattle.disk_model.specs.host_base.Answers.{Cause, refused, no_memory}
 use Rattle.disk_model.specs.Numbers.{field}
 use Rattle.disk_model.specs.Fixups.{fixup_of, restored}
-use Rattle.log_model.specs.declared.entry.Entry.{Entry}
-use Rattle.log_model.specs.declared.fault.EntryFault.{EntryFault}
-use Rattle.log_model.specs.Entries.{entry_at, entry_size}
+use Rattle.log_record.specs.log_model.declared.entry.Entry.{Entry}
+use Rattle.log_record.specs.log_model.declared.fault.EntryFault.{EntryFault}
+use Rattle.log_record.specs.log_model.Entries.{entry_at, entry_size}
 use Rattle.log_page.specs.declared.fault.PageFault.{PageFault}
 use Rattle.log_page.specs.declared.fault.PageFault.TheVariants.{NotWhole, Foreign, Memory}
 use Rattle.log_page.specs.Places.{entries_at, lap_of}

@@ -1,7 +1,7 @@
 -- Restart pages of a log: when one is whole, its fields, which of two is chosen, and the one spelling that is written.
 use Rattle.std.specs.Prelude.{◌≡◌, ℕ, ◌+◌, ◌-◌, ◌*◌, ◌/◌, ◌%◌, List, [], ◌∷◌, ◌++◌, drop, nat_eq, nat_le, nat_lt, ◌==◌, ◌&&◌, ◌||◌, not, Bool, true, false, if◌then◌else◌, Option, Some, None, Result, Ok, Err, is_ok, is_none, codes}
 use Rattle.std.specs.List.{starts_with, list_all}
-use Rattle.host_base.specs.Answers.{◌>>=◌, needs}
+use Rattle.disk_model.specs.host_base.Answers.{◌>>=◌, needs}
 use Rattle.disk_model.specs.Numbers.{field, spell}
 use Rattle.disk_model.specs.Bytes.{zeros, written}
 use Rattle.disk_model.specs.Fixups.{fixup_of, restored}

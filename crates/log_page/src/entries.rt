@@ -1,8 +1,8 @@
 ghost use Rattle.std.specs.Prelude.{◌≡◌, ◌+◌, ◌-◌, ◌*◌, ◌/◌, ◌<◌, ◌≤◌, ◌^◌, ◌++◌, ◌∷◌, [], All, length, IfOk, IfErr, IfSome, OnOk, OnErr};
 ghost use Rattle.std.specs.Bool.{OnTrue};
-ghost use Rattle.host_base.specs.Answers.{Gives};
+ghost use Rattle.disk_model.specs.host_base.Answers.{Gives};
 ghost use Rattle.disk_model.specs.Fixups.{restored};
-ghost use Rattle.log_model.specs.Entries.{entry_size, FitsEntry};
+ghost use Rattle.log_record.specs.log_model.Entries.{entry_size, FitsEntry};
 ghost use Rattle.log_page.specs.declared.fault.PageFault.TheVariants.{Memory as no_memory};
 ghost use Rattle.log_page.specs.Places.{page_lsn};
 ghost use Rattle.log_page.specs.RecordPages.{page_cause, is_whole_page, lsn_of, bytes_from, entry_in, goes_on, entries_from, page_reading, page_entries, AppendsReading, AppendsPage};
@@ -12,8 +12,7 @@ use crate::places::page_lsn;
 use crate::record::is_record_page;
 use disk_model::u16_at;
 use fixup_record::unprotect;
-use log_model::{Entry, EntryFault};
-use log_record::read;
+use log_record::{Entry, EntryFault, read};
 use std::alloc::{AllocError, Global};
 
 // Where the entries of a page begin.

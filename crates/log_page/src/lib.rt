@@ -17,8 +17,9 @@ mod sealing;
 pub use check::pick_check;
 pub use entries::{append_at, append_page, read_page};
 pub use fault::PageFault;
+pub use fixup_record::protect;
 pub use laws::{has_digits, lsn_says_place, page_read_again, restart_read_again, written_pages};
-pub use log_model::Entry;
+pub use log_record::{Act, Entry, put};
 pub use places::{
     Extent, LogPlace, LogRuns, digits, is_in_ring, lap_of, lsn_at, offset_of, page_lsn,
     sequence_bits,

@@ -1,9 +1,9 @@
 -- A walk over the pages of the ring, by what a view knows of them.
 use Rattle.std.proofs.Common.{◌≡◌, ℕ, suc, ◌+◌, ◌-◌, ◌<◌, ◌≤◌, true, List, [], Option, Some, None, Ok, Err, Result, refl, sym, ap, ◌∙◌, subst, arith}
 use Rattle.std.specs.Prelude.{IfSome}
-use Rattle.host_base.proofs.Known.{both}
+use Rattle.disk_model.proofs.host_base.Known.{both}
 use Rattle.disk_model.specs.Content.{Content}
-use Rattle.log_model.specs.declared.entry.Entry.{Entry}
+use Rattle.log_page.specs.log_model.declared.entry.Entry.{Entry}
 use Rattle.log_page.specs.declared.places.LogPlace.{LogPlace}
 use Rattle.log_page.specs.declared.fault.PageFault.TheVariants.{NotWhole, Foreign}
 use Rattle.log_page.specs.declared.fault.PageFault.{PageFault}

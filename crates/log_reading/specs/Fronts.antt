@@ -1,6 +1,6 @@
 -- What the two restart pages of a log say.
 use Rattle.std.specs.Prelude.{ℕ, ◌+◌, ◌^◌, ◌==◌, ◌&&◌, not, nat_le, if◌then◌else◌, List, Option, Some, None, is_some, Result, Ok}
-use Rattle.host_base.specs.Answers.{◌>>=◌, needs}
+use Rattle.disk_model.specs.host_base.Answers.{◌>>=◌, needs}
 use Rattle.log_page.specs.declared.restart.Restart.{Restart}
 use Rattle.log_page.specs.Restarts.{restart_of, chosen, is_second_chosen, is_blank, is_emptied}
 use Rattle.log_reading.specs.declared.fault.LogRefusal.{LogRefusal}

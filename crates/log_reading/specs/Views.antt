@@ -1,6 +1,6 @@
 -- What the faults of a view are here.
 use Rattle.std.specs.Prelude.{⊤}
-use Rattle.host_base.specs.Answers.{Cause, refused, no_memory, failed}
+use Rattle.disk_model.specs.host_base.Answers.{Cause, refused, no_memory, failed}
 use Rattle.block_view.specs.declared.fault.ViewFault.{ViewFault}
 use Rattle.block_view.specs.declared.fault.ViewFault.TheVariants as views
 use Rattle.log_reading.specs.declared.fault.LogRefusal.{LogRefusal}

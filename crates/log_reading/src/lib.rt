@@ -11,10 +11,15 @@ mod live;
 mod pages;
 mod ring;
 
+pub use block_view::{View, ViewFault};
+pub use disk_model::{Block, BlockKind, Body};
 pub use fault::{LogRefusal, RecoveryFault};
 pub use front::{RestartFront, front_of};
 pub use laps::greatest_lsn;
 pub use live::{LiveLog, live_log};
-pub use log_page::LogPlace;
+pub use log_page::{
+    Act, Entry, Extent, LogPlace, LogRuns, Restart, digits, is_in_ring, lap_of, offset_of,
+    page_lsn, pick_check, protect, put, seal_page, sequence_bits,
+};
 pub use pages::read_page;
 pub use ring::is_ring_place;

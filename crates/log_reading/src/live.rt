@@ -1,6 +1,6 @@
 //! The live log, read page by page.
 ghost use Rattle.std.specs.Prelude.{◌≡◌, ◌+◌, ◌*◌, ◌<◌, ◌≤◌, ◌^◌, true, [], All, None, IfOk, IfErr, IfSome};
-ghost use Rattle.log_model.specs.Entries.{FitsEntry};
+ghost use Rattle.log_page.specs.log_model.Entries.{FitsEntry};
 ghost use Rattle.log_page.specs.Places.{lap_of, page_of, page_lsn, is_in_ring, page_after, lap_after};
 ghost use Rattle.log_page.specs.RecordPages.{is_whole_page, page_reading, AppendsPage};
 ghost use Rattle.log_page.specs.LiveLogs.{live_log, start_in_page};
@@ -13,8 +13,7 @@ use crate::fault::RecoveryFault;
 use crate::pages::read_page;
 use block_view::View;
 use disk_model::Body;
-use log_model::Entry;
-use log_page::{LogPlace, PageFault, append_at, is_in_ring, lap_of, offset_of};
+use log_page::{Entry, LogPlace, PageFault, append_at, is_in_ring, lap_of, offset_of};
 use std::alloc::{AllocError, Global};
 
 /// The entries of a log that was read.

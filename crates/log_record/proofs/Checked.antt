@@ -2,7 +2,7 @@
 use Rattle.std.proofs.Common.{◌≡◌, ℕ, ◌+◌, ◌*◌, ◌^◌, ◌<◌, ◌≤◌, List, length, Result, Ok, Err, sym, arith}
 use Rattle.std.specs.Prelude.{nat_le, ◌==◌, ◌&&◌, OnOk, IfOk}
 use Rattle.std.proofs.lemmas.Bool.{and_parts, leb-true}
-use Rattle.host_base.specs.Answers.{Gives}
+use Rattle.disk_model.specs.host_base.Answers.{Gives}
 use Rattle.disk_model.specs.Numbers.{field}
 use Rattle.disk_model.specs.Bytes.{AreBytes}
 use Rattle.log_model.specs.declared.entry.Entry.{Entry}

@@ -1,6 +1,6 @@
 -- What an update's bytes say.
 use Rattle.std.specs.Prelude.{ℕ, List, Result, Ok}
-use Rattle.host_base.specs.Answers.{◌>>=◌}
+use Rattle.disk_model.specs.host_base.Answers.{◌>>=◌}
 use Rattle.log_model.specs.declared.entry.Act.{Act}
 use Rattle.log_model.specs.declared.fault.EntryFault.{EntryFault}
 use Rattle.log_model.specs.Entries.{update_fits, update_of}

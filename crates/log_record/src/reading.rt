@@ -1,5 +1,5 @@
 ghost use Rattle.std.specs.Prelude.{◌≡◌, ◌+◌, ◌*◌, ◌<◌, ◌≤◌, ◌^◌, Ok, length, IfOk};
-ghost use Rattle.host_base.specs.Answers.{Gives};
+ghost use Rattle.disk_model.specs.host_base.Answers.{Gives};
 ghost use Rattle.disk_model.specs.Numbers.{field};
 ghost use Rattle.log_record.specs.Reading.{update_at};
 ghost use Rattle.log_model.specs.Entries.{entry_cause, update_size, said_size, update_of, act_at, entry_at, entry_size, FitsEntry};
@@ -8,8 +8,7 @@ use crate::checking::{
     COMMIT, HEAD, UPDATE, check_commit, check_front, check_transaction, check_update, part,
     redo_length, up8,
 };
-use disk_model::{u16_at, u32_at, u64_at};
-use host_base::Bytes;
+use disk_model::{Bytes, u16_at, u32_at, u64_at};
 use log_model::{Act, Entry, EntryFault};
 use std::alloc::Global;
 

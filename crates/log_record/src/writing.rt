@@ -3,8 +3,7 @@ ghost use Rattle.disk_model.specs.Bytes.{zeros};
 ghost use Rattle.log_model.specs.Entries.{most_bytes, act_spelling, bytes_spelling, commit_spelling, entry_spelling, filled, front_spelling, update_spelling, FitsAct, FitsEntry};
 
 use crate::checking::{COMMIT, HEAD, UPDATE, up8};
-use disk_model::{put_u16, put_u32, put_u64};
-use host_base::Memory;
+use disk_model::{Memory, put_u16, put_u32, put_u64};
 use log_model::{Act, Entry};
 use std::alloc::{AllocError, Global};
 

@@ -13,11 +13,11 @@ use Rattle.std.specs.Borrow.{Bor}
 use Rattle.std.proofs.lemmas.Bool.{eqb-true}
 use Rattle.std.proofs.lemmas.Bool.Decides.{nat_tests}
 use Rattle.std.proofs.lemmas.Map.Keys.{sorted_head, sorted_tail}
-use Rattle.disk_model.specs.declared.block.Block.{Block}
-use Rattle.disk_model.specs.declared.block.BlockKind.{BlockKind}
-use Rattle.disk_model.specs.declared.block.BlockKind.TheVariants.{Plain, FileRec, Index}
-use Rattle.disk_model.specs.Sectors.{same_block, same_kind}
-use Rattle.disk_model.proofs.Frames.{same_block-is}
+use Rattle.log_reading.specs.disk_model.declared.block.Block.{Block}
+use Rattle.log_reading.specs.disk_model.declared.block.BlockKind.{BlockKind}
+use Rattle.log_reading.specs.disk_model.declared.block.BlockKind.TheVariants.{Plain, FileRec, Index}
+use Rattle.log_reading.specs.disk_model.Sectors.{same_block, same_kind}
+use Rattle.log_reading.proofs.disk_model.Frames.{same_block-is}
 use Rattle.log_model.specs.Logs.{is_in_grid}
 use Rattle.log_model.specs.declared.entry.Entry.{Entry}
 use Rattle.log_recovery.specs.declared.found.Shadow.{Shadow}

@@ -8,15 +8,15 @@ use Rattle.std.proofs.lemmas.List.Elements.{All-filter, All-from_recursion, recu
 use Rattle.std.specs.Cmp.Lexicographic.{pointwise}
 use Rattle.std.specs.Borrow.{Bor}
 use Rattle.std.specs.BTreeMap.{BTreeMap}
-use Rattle.disk_model.specs.declared.block.Block.{Block}
-use Rattle.disk_model.specs.declared.block.BlockKind.{BlockKind}
-use Rattle.disk_model.specs.declared.block.BlockKind.TheVariants.{Plain, FileRec, Index}
-use Rattle.disk_model.specs.Bodies.{BodyOf}
-use Rattle.disk_model.specs.Sectors.{sectors, same_kind, same_block, overlap}
-use Rattle.disk_model.specs.Content.{Content}
-use Rattle.disk_model.specs.Bytes.{written}
-use Rattle.disk_model.specs.Writes.{bytes_after}
-use Rattle.disk_model.proofs.Frames.{same_block-is, bytes_after-append}
+use Rattle.log_reading.specs.disk_model.declared.block.Block.{Block}
+use Rattle.log_reading.specs.disk_model.declared.block.BlockKind.{BlockKind}
+use Rattle.log_reading.specs.disk_model.declared.block.BlockKind.TheVariants.{Plain, FileRec, Index}
+use Rattle.log_reading.specs.disk_model.Bodies.{BodyOf}
+use Rattle.log_reading.specs.disk_model.Sectors.{sectors, same_kind, same_block, overlap}
+use Rattle.log_reading.specs.disk_model.Content.{Content}
+use Rattle.log_reading.specs.disk_model.Bytes.{written}
+use Rattle.log_reading.specs.disk_model.Writes.{bytes_after}
+use Rattle.log_reading.proofs.disk_model.Frames.{same_block-is, bytes_after-append}
 use Rattle.log_model.specs.declared.entry.Entry.{Entry}
 use Rattle.log_model.specs.declared.entry.Act.{Act}
 use Rattle.log_model.specs.declared.entry.Act.TheVariants.{Update, Commit}

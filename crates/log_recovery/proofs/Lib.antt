@@ -1,3 +1,4 @@
+pub use Rattle.device_view.proofs as device_view
 pub mod Walking
 pub mod Saying
 pub mod Grouping

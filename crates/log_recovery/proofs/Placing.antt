@@ -6,11 +6,11 @@ use Rattle.std.specs.declared.cmp.Ordering.{Ordering}
 use Rattle.std.specs.declared.cmp.Ordering.TheVariants.{Less, Equal, Greater}
 use Rattle.std.specs.Ordering.{is_eq, eq_by_cmp, nat_cmp, ordering_then}
 use Rattle.std.proofs.Math.Seq.{drop-cons}
-use Rattle.disk_model.specs.declared.block.Block.{Block}
-use Rattle.disk_model.specs.declared.block.BlockKind.{BlockKind}
-use Rattle.disk_model.specs.declared.block.BlockKind.TheVariants.{Plain, FileRec, Index}
-use Rattle.disk_model.specs.Bodies.{BodyOf}
-use Rattle.disk_model.specs.Sectors.{same_block, same_kind}
+use Rattle.log_reading.specs.disk_model.declared.block.Block.{Block}
+use Rattle.log_reading.specs.disk_model.declared.block.BlockKind.{BlockKind}
+use Rattle.log_reading.specs.disk_model.declared.block.BlockKind.TheVariants.{Plain, FileRec, Index}
+use Rattle.log_reading.specs.disk_model.Bodies.{BodyOf}
+use Rattle.log_reading.specs.disk_model.Sectors.{same_block, same_kind}
 use Rattle.log_recovery.specs.declared.found.RecoveredBlock.{RecoveredBlock}
 use Rattle.log_recovery.specs.Recovering.{held_body}
 use Rattle.log_recovery.specs.Places.{kind_number, key_of, key_order, place_from, body_at}

@@ -9,17 +9,17 @@ use Rattle.std.specs.Cmp.Lexicographic.{pointwise}
 use mathlib.Core.Path.{fun_ext}
 use Rattle.host_base.specs.Answers.{◌>>=◌, ExplainsOrFails, Gives, Explains}
 use Rattle.host_base.proofs.Known.{both, one, always}
-use Rattle.disk_model.specs.declared.block.Block.{Block}
-use Rattle.disk_model.specs.Bodies.{BodyOf}
-use Rattle.disk_model.specs.Sectors.{same_block}
-use Rattle.disk_model.specs.Content.{Content}
-use Rattle.disk_model.proofs.Frames.{same_block-is}
-use Rattle.fixup_record.specs.Spellings.{has_spelling}
+use Rattle.log_reading.specs.disk_model.declared.block.Block.{Block}
+use Rattle.log_reading.specs.disk_model.Bodies.{BodyOf}
+use Rattle.log_reading.specs.disk_model.Sectors.{same_block}
+use Rattle.log_reading.specs.disk_model.Content.{Content}
+use Rattle.log_reading.proofs.disk_model.Frames.{same_block-is}
+use Rattle.log_reading.specs.fixup_record.Spellings.{has_spelling}
 use Rattle.log_model.specs.declared.entry.Entry.{Entry}
 use Rattle.log_model.specs.declared.entry.Act.{Act}
 use Rattle.log_model.specs.declared.entry.Act.TheVariants.{Update, Commit}
 use Rattle.log_model.specs.Logs.{block_of_kind, updates, is_shadowed, is_covered_whole, recovered, is_other, is_written_out}
-use Rattle.log_page.specs.declared.places.LogPlace.{LogPlace}
+use Rattle.log_reading.specs.log_page.declared.places.LogPlace.{LogPlace}
 use Rattle.log_reading.specs.declared.fault.LogRefusal.{LogRefusal}
 use Rattle.log_reading.specs.declared.fault.RecoveryFault.{RecoveryFault}
 use Rattle.log_reading.specs.declared.fault.LogRefusal.TheVariants.{ForeignLog}

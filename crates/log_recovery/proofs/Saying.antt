@@ -2,12 +2,12 @@
 use Rattle.std.proofs.Common.{◌≡◌, ℕ, Bool, true, false, not, ◌||◌, ◌&&◌, List, Option, Some, None, refl, sym, ap, ◌∙◌}
 use Rattle.std.specs.Prelude.{if◌then◌else◌, All, nat_eq}
 use Rattle.std.specs.Cmp.Lexicographic.{pointwise}
-use Rattle.disk_model.specs.declared.block.Block.{Block}
-use Rattle.disk_model.specs.declared.block.BlockKind.TheVariants.{Plain}
-use Rattle.disk_model.specs.Bodies.{BodyOf}
-use Rattle.disk_model.specs.Sectors.{same_kind}
-use Rattle.disk_model.specs.Content.{Content, HasSizes}
-use Rattle.disk_model.proofs.Frames.{bytes_after-append}
+use Rattle.log_reading.specs.disk_model.declared.block.Block.{Block}
+use Rattle.log_reading.specs.disk_model.declared.block.BlockKind.TheVariants.{Plain}
+use Rattle.log_reading.specs.disk_model.Bodies.{BodyOf}
+use Rattle.log_reading.specs.disk_model.Sectors.{same_kind}
+use Rattle.log_reading.specs.disk_model.Content.{Content, HasSizes}
+use Rattle.log_reading.proofs.disk_model.Frames.{bytes_after-append}
 use Rattle.log_model.specs.declared.entry.Entry.{Entry}
 use Rattle.log_model.specs.Logs.{IsLevel, is_ended, is_shadowed, undos_back, redos, recovered, is_covered_whole, is_other, is_written_out, is_partial}
 use Rattle.log_model.proofs.Recovering.{changes, torn_after}

@@ -5,13 +5,13 @@ use Rattle.std.proofs.lemmas.Bool.{eq-eqb, and_from}
 use Rattle.std.specs.List.{AllByRecursion, IsDistinct}
 use Rattle.std.specs.Option.{option_or, option_map}
 use Rattle.std.proofs.lemmas.List.Folds.{list_any-append}
-use Rattle.disk_model.specs.declared.block.Block.{Block}
-use Rattle.disk_model.specs.Bodies.{BodyOf}
-use Rattle.disk_model.specs.declared.block.BlockKind.{BlockKind}
-use Rattle.disk_model.specs.declared.block.BlockKind.TheVariants.{Plain, FileRec, Index}
-use Rattle.disk_model.specs.Sectors.{same_block, same_kind}
-use Rattle.disk_model.specs.Content.{Content}
-use Rattle.disk_model.proofs.Frames.{same_block-is}
+use Rattle.log_reading.specs.disk_model.declared.block.Block.{Block}
+use Rattle.log_reading.specs.disk_model.Bodies.{BodyOf}
+use Rattle.log_reading.specs.disk_model.declared.block.BlockKind.{BlockKind}
+use Rattle.log_reading.specs.disk_model.declared.block.BlockKind.TheVariants.{Plain, FileRec, Index}
+use Rattle.log_reading.specs.disk_model.Sectors.{same_block, same_kind}
+use Rattle.log_reading.specs.disk_model.Content.{Content}
+use Rattle.log_reading.proofs.disk_model.Frames.{same_block-is}
 use Rattle.log_model.specs.declared.entry.Entry.{Entry}
 use Rattle.log_model.specs.declared.entry.Act.{Act}
 use Rattle.log_model.specs.declared.entry.Act.TheVariants.{Update, Commit}

@@ -8,12 +8,12 @@ use Rattle.std.proofs.lemmas.Bool.Decides.{nat_tests}
 use Rattle.std.proofs.lemmas.List.Folds.{list_any-append, list_any_none, list_any_at, Any-from_list_any}
 use Rattle.std.proofs.lemmas.List.FromFn.{length-range_with_len, get_or-range_with_len}
 use Rattle.std.proofs.lemmas.List.Sorted.{IsNonDecreasingBy-drop, IsNonDecreasingBy-from_all_adjacent, list_any-IsPermutation}
-use Rattle.disk_model.specs.declared.block.Block.{Block}
-use Rattle.disk_model.specs.declared.block.BlockKind.{BlockKind}
-use Rattle.disk_model.specs.declared.block.BlockKind.TheVariants.{Plain, FileRec, Index}
-use Rattle.disk_model.specs.Sectors.{sectors, overlap}
-use Rattle.log_page.specs.declared.places.Extent.{Extent}
-use Rattle.log_page.specs.declared.places.LogPlace.{LogPlace}
+use Rattle.log_reading.specs.disk_model.declared.block.Block.{Block}
+use Rattle.log_reading.specs.disk_model.declared.block.BlockKind.{BlockKind}
+use Rattle.log_reading.specs.disk_model.declared.block.BlockKind.TheVariants.{Plain, FileRec, Index}
+use Rattle.log_reading.specs.disk_model.Sectors.{sectors, overlap}
+use Rattle.log_reading.specs.log_page.declared.places.Extent.{Extent}
+use Rattle.log_reading.specs.log_page.declared.places.LogPlace.{LogPlace}
 use Rattle.log_reading.specs.LogPages.{sector_in, sector_below, log_sector}
 use Rattle.log_reading.proofs.Ahead.{passed, inside}
 use Rattle.log_recovery.specs.declared.own.Stretch.{Stretch}

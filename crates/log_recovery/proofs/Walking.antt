@@ -8,9 +8,9 @@ use Rattle.std.specs.Borrow.{Bor}
 use Rattle.std.proofs.Math.Seq.{drop-cons}
 use Rattle.std.proofs.lemmas.List.{take_more}
 use Rattle.std.proofs.lemmas.List.Folds.{list_any-append}
-use Rattle.disk_model.specs.declared.block.Block.{Block}
-use Rattle.disk_model.specs.Writes.{Write, bytes_after}
-use Rattle.disk_model.proofs.Frames.{bytes_after-append}
+use Rattle.log_reading.specs.disk_model.declared.block.Block.{Block}
+use Rattle.log_reading.specs.disk_model.Writes.{Write, bytes_after}
+use Rattle.log_reading.proofs.disk_model.Frames.{bytes_after-append}
 use Rattle.log_model.specs.declared.entry.Entry.{Entry}
 use Rattle.log_model.specs.Logs.{act_says, last_said, undo_of, redo_of, undos_back, redos, is_ended, is_commit}
 use Rattle.log_recovery.specs.Groups.{lent}

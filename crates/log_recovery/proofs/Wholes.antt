@@ -8,11 +8,11 @@ use Rattle.std.proofs.Math.Nat.{le_trans}
 use Rattle.std.proofs.Math.Pow.{pow_mono}
 use Rattle.host_base.specs.Answers.{◌>>=◌, ExplainsOrFails}
 use Rattle.host_base.proofs.Known.{both, one, always}
-use Rattle.disk_model.specs.Content.{Content}
+use Rattle.log_reading.specs.disk_model.Content.{Content}
 use Rattle.log_model.specs.declared.entry.Entry.{Entry}
 use Rattle.log_model.specs.Logs.{first_misplaced, first_partial}
-use Rattle.log_page.specs.declared.places.LogPlace.{LogPlace}
-use Rattle.log_page.specs.Places.{sequence_bits}
+use Rattle.log_reading.specs.log_page.declared.places.LogPlace.{LogPlace}
+use Rattle.log_reading.specs.log_page.Places.{sequence_bits}
 use Rattle.log_reading.specs.declared.fault.LogRefusal.{LogRefusal}
 use Rattle.log_reading.specs.declared.fault.RecoveryFault.{RecoveryFault}
 use Rattle.log_reading.specs.declared.fault.LogRefusal.TheVariants.{LogVersion, NoRestart, ForeignLog}

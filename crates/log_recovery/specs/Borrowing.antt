@@ -1,7 +1,7 @@
 -- What stays of a view that is borrowed.
 use Rattle.std.specs.Prelude.{ℕ, Option}
-use Rattle.disk_model.specs.Content.{Content}
-use Rattle.block_view.specs.Borrowed.{BorrowedView}
+use Rattle.log_reading.specs.disk_model.Content.{Content}
+use Rattle.log_reading.specs.block_view.Borrowed.{BorrowedView}
 
 -- the reference to it, its content, and what it keeps
 abbrev pub borrowed_view : {V Kept : Type 0} → (V → Option Content) → (V → Kept) → ℕ → V → BorrowedView Kept

@@ -1,9 +1,9 @@
 -- What was found by the first entries of a log, and one block more; the shadowed blocks are found apart.
 use Rattle.std.specs.Prelude.{ℕ, ◌≡◌, ◌*◌, ⊤, Bool, true, false, if◌then◌else◌, List, [], ◌∷◌, ◌++◌, take, drop, find, map, length, Option, Some, None, Result, Ok, Err}
 use Rattle.std.specs.List.{IsDistinct}
-use Rattle.disk_model.specs.declared.block.Block.{Block}
-use Rattle.disk_model.specs.Sectors.{same_block, sectors}
-use Rattle.disk_model.specs.Content.{Content}
+use Rattle.log_reading.specs.disk_model.declared.block.Block.{Block}
+use Rattle.log_reading.specs.disk_model.Sectors.{same_block, sectors}
+use Rattle.log_reading.specs.disk_model.Content.{Content}
 use Rattle.log_model.specs.declared.entry.Entry.{Entry}
 use Rattle.log_model.specs.declared.entry.Act.{Act}
 use Rattle.log_model.specs.declared.entry.Act.TheVariants.{Update, Commit}

@@ -1,3 +1,6 @@
+pub use Rattle.device_view.specs as device_view
+pub use Rattle.log_reading.specs as log_reading
+pub use Rattle.log_reading.specs.log_page
 pub mod Blocks
 pub mod Recovering
 pub mod Finding

@@ -3,15 +3,15 @@
 use Rattle.std.specs.Prelude.{ℕ, ◌≡◌, ◌+◌, ◌^◌, nat_lt, Bool, if◌then◌else◌, List, [], Option, Some, None, unwrap_or, Result, Ok, Err}
 use Rattle.std.specs.Option.{option_or}
 use Rattle.host_base.specs.Answers.{◌>>=◌, needs, ExplainsOrFails}
-use Rattle.disk_model.specs.Content.{Content}
+use Rattle.log_reading.specs.disk_model.Content.{Content}
 use Rattle.log_model.specs.declared.entry.Entry.{Entry}
 use Rattle.log_model.specs.Logs.{first_misplaced, first_partial}
-use Rattle.log_page.specs.declared.restart.Restart.{Restart}
-use Rattle.log_page.specs.declared.places.LogPlace.{LogPlace}
-use Rattle.log_page.specs.Places.{sequence_bits}
-use Rattle.log_page.specs.Restarts.{is_clean}
-use Rattle.log_page.specs.RecordPages.{Reading}
-use Rattle.log_page.specs.LiveLogs.{live_log, greatest_lsn, lap_above}
+use Rattle.log_reading.specs.log_page.declared.restart.Restart.{Restart}
+use Rattle.log_reading.specs.log_page.declared.places.LogPlace.{LogPlace}
+use Rattle.log_reading.specs.log_page.Places.{sequence_bits}
+use Rattle.log_reading.specs.log_page.Restarts.{is_clean}
+use Rattle.log_reading.specs.log_page.RecordPages.{Reading}
+use Rattle.log_reading.specs.log_page.LiveLogs.{live_log, greatest_lsn, lap_above}
 use Rattle.log_reading.specs.declared.fault.LogRefusal.{LogRefusal}
 use Rattle.log_reading.specs.declared.fault.RecoveryFault.{RecoveryFault}
 use Rattle.log_reading.specs.declared.fault.LogRefusal.TheVariants.{ForeignLog}

@@ -5,11 +5,11 @@ use Rattle.std.specs.declared.cmp.Ordering.{Ordering}
 use Rattle.std.specs.Ordering.{nat_cmp, ordering_then}
 use Rattle.std.specs.BTreeMap.{BTreeMap, get}
 use Rattle.std.specs.BTreeSet.{BTreeSet, contains}
-use Rattle.disk_model.specs.declared.block.Block.{Block}
-use Rattle.disk_model.specs.declared.block.BlockKind.{BlockKind}
-use Rattle.disk_model.specs.declared.block.BlockKind.TheVariants.{Plain, FileRec, Index}
-use Rattle.disk_model.specs.Bodies.{BodyOf}
-use Rattle.disk_model.specs.Sectors.{same_block}
+use Rattle.log_reading.specs.disk_model.declared.block.Block.{Block}
+use Rattle.log_reading.specs.disk_model.declared.block.BlockKind.{BlockKind}
+use Rattle.log_reading.specs.disk_model.declared.block.BlockKind.TheVariants.{Plain, FileRec, Index}
+use Rattle.log_reading.specs.disk_model.Bodies.{BodyOf}
+use Rattle.log_reading.specs.disk_model.Sectors.{same_block}
 use Rattle.log_model.specs.declared.entry.Entry.{Entry}
 use Rattle.log_recovery.specs.declared.found.RecoveredBlock.{RecoveredBlock}
 use Rattle.log_recovery.specs.Recovering.{is_updated}

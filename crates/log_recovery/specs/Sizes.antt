@@ -4,10 +4,10 @@ use Rattle.std.specs.Prelude.{IfSome, All, if◌then◌else◌, unwrap_or}
 use Rattle.std.specs.Option.{option_map, option_copied}
 use Rattle.std.specs.List.{AllByRecursion}
 use Rattle.std.proofs.lemmas.List.Elements.{recursion_from_All}
-use Rattle.disk_model.specs.declared.block.Block.{Block}
-use Rattle.disk_model.specs.Bodies.{BodyOf}
-use Rattle.disk_model.specs.Sectors.{same_block, sectors}
-use Rattle.disk_model.specs.Content.{Content, HasSizes}
+use Rattle.log_reading.specs.disk_model.declared.block.Block.{Block}
+use Rattle.log_reading.specs.disk_model.Bodies.{BodyOf}
+use Rattle.log_reading.specs.disk_model.Sectors.{same_block, sectors}
+use Rattle.log_reading.specs.disk_model.Content.{Content, HasSizes}
 use Rattle.disk_model.proofs.Frames.{same_block-is}
 use Rattle.log_recovery.specs.declared.found.RecoveredBlock.{RecoveredBlock}
 use Rattle.log_recovery.specs.Recovering.{held_body, content_with, IsSized}

@@ -1,9 +1,9 @@
 //! The blocks that recovery makes and a mount may not write out.
 ghost use Rattle.std.specs.Prelude.{◌≡◌, ◌||◌, ◌&&◌, Bool, All, OnOk, IfOk, IfErr, IfSome};
 ghost use Rattle.std.specs.BTreeSet.{contains};
-ghost use Rattle.disk_model.specs.declared.block.Block.{Block as BlockOf};
-ghost use Rattle.disk_model.specs.Sectors.{same_block};
-ghost use Rattle.block_view.specs.Views.{AsksView};
+ghost use Rattle.log_reading.specs.disk_model.declared.block.Block.{Block as BlockOf};
+ghost use Rattle.log_reading.specs.disk_model.Sectors.{same_block};
+ghost use Rattle.log_reading.specs.block_view.Views.{AsksView};
 ghost use Rattle.log_reading.specs.LogPages.{IsLogPlace};
 ghost use Rattle.log_reading.specs.Views.{NeverForeign, recovery_cause};
 ghost use Rattle.log_recovery.specs.Places.{key_of, key_order};
@@ -15,12 +15,9 @@ use crate::found::RecoveredBlock;
 use crate::own::{Stretch, is_met, stretches_of};
 use crate::places::{Met, meet, was_met};
 use crate::updates::block_of_kind;
-use block_view::View;
-use disk_model::{Block, Body};
-use fixup_record::has_spelling;
+use device_view::has_spelling;
 use log_model::{Act, Entry};
-use log_page::LogPlace;
-use log_reading::RecoveryFault;
+use log_reading::{Block, Body, LogPlace, RecoveryFault, View};
 use std::alloc::{AllocError, Global};
 use std::collections::BTreeSet;
 

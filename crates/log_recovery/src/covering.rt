@@ -1,14 +1,14 @@
 //! Whether entries cover a block whole.
 ghost use Rattle.std.specs.Prelude.{◌≡◌, ◌+◌, ◌*◌, ◌≤◌, ◌||◌, ◌&&◌, ℕ, Bool, false, nat_le, nat_lt, get_or, length, replicate, All, IfOk};
 ghost use Rattle.std.specs.List.{list_all};
-ghost use Rattle.disk_model.specs.Sectors.{sectors};
+ghost use Rattle.log_reading.specs.disk_model.Sectors.{sectors};
 ghost use Rattle.log_model.specs.Logs.{covers, is_covered_whole};
 ghost use Rattle.log_recovery.specs.Blocks.{LiesInside};
 ghost use Rattle.log_recovery.specs.Groups.{lent, LentLies};
 
 use crate::updates::block_of_kind;
-use disk_model::Block;
 use log_model::{Act, Entry};
+use log_reading::Block;
 use std::alloc::{AllocError, Global};
 
 // Marks `count` places from `at` on.

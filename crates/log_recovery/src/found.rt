@@ -1,7 +1,7 @@
 ghost use Rattle.std.specs.Prelude.{◌≡◌, IfOk};
 
-use disk_model::{Block, Body};
 use host_base::Bytes;
+use log_reading::{Block, Body};
 use std::alloc::{AllocError, Global};
 use std::marker::Model;
 
@@ -14,7 +14,7 @@ pub struct RecoveredBody {
 }
 
 impl Model for RecoveredBody {
-    ghost use Rattle.disk_model.specs.Bodies.{BodyOf};
+    ghost use Rattle.log_reading.specs.disk_model.Bodies.{BodyOf};
 
     ghost Value = { BodyOf };
 
@@ -22,7 +22,7 @@ impl Model for RecoveredBody {
 }
 
 impl RecoveredBody {
-    ghost use Rattle.disk_model.specs.Bodies.{BodyOf};
+    ghost use Rattle.log_reading.specs.disk_model.Bodies.{BodyOf};
 
     /// A copy of a body, in time and memory linear in its bytes. The error is want of memory.
     pub fn copy_of(alloc: Global, body: &Body) -> Result<RecoveredBody, AllocError>

@@ -6,8 +6,8 @@ ghost use Rattle.std.specs.BTreeMap.{get};
 ghost use Rattle.log_recovery.specs.Groups.{lent, first_cluster, last_cluster, reaches, held_group, HasGroups};
 
 use crate::updates::update_block;
-use disk_model::Block;
 use log_model::Entry;
+use log_reading::Block;
 use std::alloc::{AllocError, Global};
 use std::collections::BTreeMap;
 

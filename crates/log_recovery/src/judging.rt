@@ -2,8 +2,8 @@
 ghost use Rattle.std.specs.Prelude.{◌≡◌, ◌*◌, ◌≤◌, false, true, length, All, IfOk, IfSome, IfErr};
 ghost use Rattle.std.specs.Ordering.{nat_cmp};
 ghost use Rattle.std.specs.BTreeSet.{contains};
-ghost use Rattle.disk_model.specs.Sectors.{sectors};
-ghost use Rattle.block_view.specs.Views.{AsksView};
+ghost use Rattle.log_reading.specs.disk_model.Sectors.{sectors};
+ghost use Rattle.log_reading.specs.block_view.Views.{AsksView};
 ghost use Rattle.log_reading.specs.Views.{NeverForeign, recovery_cause};
 ghost use Rattle.log_recovery.specs.Blocks.{Judges, shadowed_by};
 ghost use Rattle.log_recovery.specs.Groups.{lent, LentLies};
@@ -14,10 +14,8 @@ use crate::ended::Ended;
 use crate::found::{Judged, RecoveredBody};
 use crate::making::remake;
 use crate::walks::is_shadowed;
-use block_view::View;
-use disk_model::{Block, BlockKind, Body};
 use log_model::Entry;
-use log_reading::RecoveryFault;
+use log_reading::{Block, BlockKind, Body, RecoveryFault, View};
 use std::alloc::{AllocError, Global};
 
 // A copy of a body.

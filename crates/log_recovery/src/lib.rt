@@ -25,8 +25,9 @@ mod walks;
 mod whole;
 mod writing;
 
+pub use device_view::{DeviceView, PIECE_BYTES, piece_room};
 pub use found::{RecoveredBlock, RecoveredBlocks, RecoveredBody, Shadow};
-pub use log_reading::{LogRefusal, RecoveryFault};
+pub use log_reading::{Extent, LogPlace, LogRefusal, LogRuns, RecoveryFault};
 pub use places::{Places, places_of};
 pub use recovering::recover_entries;
 pub use view::RecoveredView;

@@ -2,16 +2,16 @@
 ghost use Rattle.std.specs.Prelude.{◌≡◌, ◌*◌, length, All};
 ghost use Rattle.std.specs.Ordering.{nat_cmp};
 ghost use Rattle.std.specs.BTreeSet.{contains};
-ghost use Rattle.disk_model.specs.Sectors.{sectors};
-ghost use Rattle.disk_model.specs.Writes.{bytes_after};
+ghost use Rattle.log_reading.specs.disk_model.Sectors.{sectors};
+ghost use Rattle.log_reading.specs.disk_model.Writes.{bytes_after};
 ghost use Rattle.log_model.specs.Logs.{undos_back, redos};
 ghost use Rattle.log_recovery.specs.Blocks.{bytes_by};
 ghost use Rattle.log_recovery.specs.Groups.{lent, LentLies};
 
 use crate::ended::Ended;
 use crate::updates::{redo_act, undo_act};
-use disk_model::{Block, Body};
 use log_model::Entry;
+use log_reading::{Block, Body};
 
 // Undoes all updates of the block, the last one first.
 fn undo(entries: &[&Entry], block: Block, out: &mut Body)

@@ -1,13 +1,12 @@
 //! Whether a block has a sector of a log's pages, or of the blocks by which the log is found.
 ghost use Rattle.std.specs.Prelude.{ℕ, ◌≡◌, ◌-◌, ◌^◌, ◌<◌, ◌≤◌, ◌++◌, Bool, false, true, nat_le, nat_lt, length, map, slice_index_or, OnOk, IfOk};
 ghost use Rattle.std.specs.List.Sorted.{IsPermutation, IsNonDecreasingBy};
-ghost use Rattle.disk_model.specs.declared.block.Block.{Block as BlockOf};
-ghost use Rattle.disk_model.specs.Sectors.{sectors};
+ghost use Rattle.log_reading.specs.disk_model.declared.block.Block.{Block as BlockOf};
+ghost use Rattle.log_reading.specs.disk_model.Sectors.{sectors};
 ghost use Rattle.log_recovery.specs.declared.own.Stretch.{Stretch as OneStretch};
 ghost use Rattle.log_recovery.specs.Own.{is_own, stretch_of, stretches_in, stretch_at, counted, with_reach, AreSorted, StandFor};
 
-use disk_model::Block;
-use log_page::{Extent, LogPlace};
+use log_reading::{Block, Extent, LogPlace};
 use std::alloc::{AllocError, Global};
 
 /// Sectors one after the other.

@@ -3,13 +3,13 @@ ghost use Rattle.std.specs.Prelude.{◌≡◌, ◌||◌, not, if◌then◌else�
 ghost use Rattle.std.specs.Option.{option_copied};
 ghost use Rattle.std.specs.BTreeMap.{get};
 ghost use Rattle.std.specs.BTreeSet.{contains};
-ghost use Rattle.disk_model.specs.declared.block.Block.{Block as BlockOf};
-ghost use Rattle.disk_model.specs.Sectors.{same_block};
+ghost use Rattle.log_reading.specs.disk_model.declared.block.Block.{Block as BlockOf};
+ghost use Rattle.log_reading.specs.disk_model.Sectors.{same_block};
 ghost use Rattle.log_recovery.specs.Recovering.{held_body};
 ghost use Rattle.log_recovery.specs.Places.{kind_number, key_of, key_order, HasPlaces, body_at};
 
 use crate::found::{RecoveredBlock, RecoveredBody};
-use disk_model::{Block, BlockKind};
+use log_reading::{Block, BlockKind};
 use std::alloc::{AllocError, Global};
 use std::collections::{BTreeMap, BTreeSet};
 

@@ -4,7 +4,7 @@ ghost use Rattle.std.specs.Prelude.{◌≡◌, ◌+◌, ◌<◌, ◌++◌, ◌�
 ghost use Rattle.std.specs.Ordering.{nat_cmp};
 ghost use Rattle.std.specs.BTreeSet.{contains};
 ghost use Rattle.log_model.specs.Logs.{IsLevel, is_ended};
-ghost use Rattle.block_view.specs.Views.{AsksView};
+ghost use Rattle.log_reading.specs.block_view.Views.{AsksView};
 ghost use Rattle.log_reading.specs.Views.{recovery_cause};
 ghost use Rattle.log_recovery.specs.Blocks.{Lies};
 ghost use Rattle.log_recovery.specs.Groups.{HasGroups};
@@ -20,10 +20,8 @@ use crate::places::{Met, meet};
 use crate::shadowing::shadows_of;
 use crate::updates::update_block;
 use crate::walks::misplaced;
-use block_view::View;
-use disk_model::{Block, Body};
 use log_model::Entry;
-use log_reading::{LogRefusal, RecoveryFault};
+use log_reading::{Block, Body, LogRefusal, RecoveryFault, View};
 use std::alloc::{AllocError, Global};
 use std::collections::BTreeSet;
 

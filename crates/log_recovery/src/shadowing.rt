@@ -3,8 +3,8 @@ ghost use Rattle.std.specs.Prelude.{◌≡◌, ◌+◌, ◌*◌, ◌/◌, ◌<�
 ghost use Rattle.std.specs.List.{IsDistinct};
 ghost use Rattle.std.specs.Ordering.{nat_cmp};
 ghost use Rattle.std.specs.BTreeSet.{contains};
-ghost use Rattle.disk_model.specs.declared.block.Block.{Block as BlockOf};
-ghost use Rattle.disk_model.specs.Sectors.{same_block};
+ghost use Rattle.log_reading.specs.disk_model.declared.block.Block.{Block as BlockOf};
+ghost use Rattle.log_reading.specs.disk_model.Sectors.{same_block};
 ghost use Rattle.log_model.specs.Logs.{is_in_grid};
 ghost use Rattle.log_recovery.specs.Groups.{lent};
 ghost use Rattle.log_recovery.specs.Recovering.{held_lsn, shadow_block};
@@ -14,8 +14,8 @@ use crate::ended::Ended;
 use crate::found::Shadow;
 use crate::groups::{Groups, group_at};
 use crate::walks::{is_shadowed, rival_of};
-use disk_model::{Block, BlockKind};
 use log_model::Entry;
+use log_reading::{Block, BlockKind};
 use std::alloc::{AllocError, Global};
 
 // Whether an entry may update it: a file record begins in an even sector, an index block in the

@@ -1,13 +1,13 @@
 //! One entry, against one block.
 ghost use Rattle.std.specs.Prelude.{◌≡◌, ◌+◌, ◌*◌, ◌≤◌, length};
-ghost use Rattle.disk_model.specs.Sectors.{sectors, are_rivals};
-ghost use Rattle.disk_model.specs.Writes.{bytes_after};
+ghost use Rattle.log_reading.specs.disk_model.Sectors.{sectors, are_rivals};
+ghost use Rattle.log_reading.specs.disk_model.Writes.{bytes_after};
 ghost use Rattle.log_model.specs.Logs.{kind_of, block_of_kind, updates, updates_rival, covers, act_says, undo_of, redo_of, is_misplaced};
 ghost use Rattle.log_recovery.specs.Blocks.{LiesInside};
 ghost use Rattle.log_recovery.specs.Finding.{update_block};
 
-use disk_model::{Block, BlockKind, Body};
 use log_model::Act;
+use log_reading::{Block, BlockKind, Body};
 
 fn kind_of(kind: u16) -> BlockKind
     ensures { result ≡ kind_of kind }

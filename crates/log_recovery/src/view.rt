@@ -1,9 +1,9 @@
 ghost use Rattle.std.specs.Prelude.{◌≡◌, ◌*◌, All, IfErr, IfSome, IsOk, OnOk, length};
 ghost use Rattle.host_base.specs.Causes.{HasCause};
-ghost use Rattle.disk_model.specs.Sectors.{sectors};
+ghost use Rattle.log_reading.specs.disk_model.Sectors.{sectors};
 ghost use Rattle.std.specs.Option.{option_map, option_copied};
-ghost use Rattle.block_view.specs.declared.fault.ViewFault.TheVariants.{Fault};
-ghost use Rattle.block_view.specs.Borrowed.{BorrowedView};
+ghost use Rattle.log_reading.specs.block_view.declared.fault.ViewFault.TheVariants.{Fault};
+ghost use Rattle.log_reading.specs.block_view.Borrowed.{BorrowedView};
 ghost use Rattle.log_recovery.specs.Borrowing.{borrowed_view};
 ghost use Rattle.log_recovery.specs.Recovering.{held_body, content_with, IsSized};
 ghost use Rattle.log_recovery.specs.Places.{HasPlaces};
@@ -11,8 +11,7 @@ ghost use Rattle.log_recovery.specs.Sizes.{sized_with};
 
 use crate::found::{RecoveredBlock, RecoveredBody};
 use crate::places::{Places, body_in};
-use block_view::{View, ViewFault};
-use disk_model::{Block, Body};
+use log_reading::{Block, Body, View, ViewFault};
 
 /// A view with these bodies in place of its own: with those that recovery found, the recovered
 /// content of the view.

@@ -8,8 +8,8 @@ ghost use Rattle.log_recovery.specs.Groups.{lent};
 
 use crate::ended::Ended;
 use crate::updates::{act_says, is_misplaced, updates_rival};
-use disk_model::Block;
 use log_model::Entry;
+use log_reading::Block;
 
 /// Whether an update of a rival is the last that is said of the block.
 #[tactic(auto, unfolding(crate::specs::Blocks::shadowed_by))]

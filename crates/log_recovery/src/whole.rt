@@ -2,14 +2,14 @@
 ghost use Rattle.std.specs.Prelude.{◌≡◌, ◌+◌, ◌^◌, ◌<◌, true, nat_lt, None, All, IfOk, IfSome, IsErrOf};
 ghost use Rattle.host_base.specs.Answers.{Gives, GivesOrFails};
 ghost use Rattle.host_base.specs.Causes.{HasFailed, last_moment};
-ghost use Rattle.disk_model.specs.Sectors.{sector_of};
-ghost use Rattle.disk_model.specs.Content.{content_of};
+ghost use Rattle.log_reading.specs.disk_model.Sectors.{sector_of};
+ghost use Rattle.log_reading.specs.disk_model.Content.{content_of};
 ghost use Rattle.device_view.specs.Devices.{KeepsDevice, CountsOnDevice};
 ghost use Rattle.log_model.specs.Entries.{FitsEntry};
 ghost use Rattle.log_model.specs.Logs.{IsLevel, first_misplaced};
-ghost use Rattle.log_page.specs.LiveLogs.{lap_above};
-ghost use Rattle.log_page.specs.Places.{sequence_bits};
-ghost use Rattle.block_view.specs.Views.{AsksView};
+ghost use Rattle.log_reading.specs.log_page.LiveLogs.{lap_above};
+ghost use Rattle.log_reading.specs.log_page.Places.{sequence_bits};
+ghost use Rattle.log_reading.specs.block_view.Views.{AsksView};
 ghost use Rattle.log_reading.specs.Views.{recovery_cause};
 ghost use Rattle.log_reading.specs.LogPages.{page_in, IsLogPlace};
 ghost use Rattle.log_reading.specs.Fronts.{front_in};
@@ -21,15 +21,12 @@ ghost use Rattle.log_recovery.specs.Writing.{RecoversWith};
 use crate::found::RecoveredBlocks;
 use crate::recovering::recover_entries;
 use crate::walks::misplaced;
-use block_view::View;
-use device_view::{DeviceView, piece_room};
-use disk_model::Body;
+use device_view::{Device, DeviceView, piece_room};
 use log_model::Entry;
-use log_page::{LogPlace, Restart, lap_of, sequence_bits};
 use log_reading::{
-    LiveLog, LogRefusal, RecoveryFault, RestartFront, front_of, greatest_lsn, live_log, read_page,
+    Body, LiveLog, LogPlace, LogRefusal, RecoveryFault, Restart, RestartFront, View, front_of,
+    greatest_lsn, lap_of, live_log, read_page, sequence_bits,
 };
-use sector_device::Device;
 use std::alloc::Global;
 
 // The laps that are to be left above the first one of a new session.

@@ -2,7 +2,7 @@
 ghost use Rattle.std.specs.Prelude.{◌≡◌, All, IfOk, IfSome};
 ghost use Rattle.std.specs.BTreeSet.{contains};
 ghost use Rattle.host_base.specs.Answers.{Gives};
-ghost use Rattle.block_view.specs.Views.{AsksView};
+ghost use Rattle.log_reading.specs.block_view.Views.{AsksView};
 ghost use Rattle.log_reading.specs.Views.{recovery_cause};
 ghost use Rattle.log_reading.specs.LogPages.{IsLogPlace};
 ghost use Rattle.log_recovery.specs.Places.{key_of, key_order};
@@ -13,11 +13,8 @@ use crate::barring::{barred_blocks, first_update};
 use crate::found::RecoveredBlock;
 use crate::places::Met;
 use crate::whole::{Recovered, RecoveredLog, recover_log};
-use block_view::View;
-use disk_model::Block;
-use fixup_record::has_spelling;
-use log_page::LogPlace;
-use log_reading::{LogRefusal, RecoveryFault};
+use device_view::has_spelling;
+use log_reading::{Block, LogPlace, LogRefusal, RecoveryFault, View};
 use std::alloc::{AllocError, Global};
 
 /// What a mount that writes finds by the log of a volume.

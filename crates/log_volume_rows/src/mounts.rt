@@ -3,12 +3,11 @@ use crate::scans::bodies;
 use crate::steps::Change::{Fill, Record};
 use crate::steps::{Step, page_of};
 use crate::volume::*;
-use image_open::{MountFault, Refusal};
 use log_images::FIRST;
 use sector_device::MemoryDevice;
 use std::process::Abort;
 use std::test::Fail;
-use volume_mount::mount;
+use volume_mount::{MountFault, Refusal, mount};
 
 // The first sectors of a record of the file table and of its mirror, of the one index block of the
 // root, and of the bitmap of the clusters, which has 256 bytes in a cluster of its own.

@@ -3,12 +3,12 @@ use crate::steps::Change::Fill;
 use crate::steps::page_of;
 use crate::volume::*;
 use device_view::{DeviceView, piece_room};
-use image_open::{MountFault, OpeningToWrite, Refusal, open_to_write};
 use log_images::FIRST;
 use sector_device::{Device, MemoryDevice};
 use std::alloc::Global;
 use std::process::Abort;
 use std::test::Fail;
+use volume_mount::{MountFault, OpeningToWrite, Refusal, open_to_write};
 
 // The first sector of record 2.
 const RECORD_2: u64 = 36;

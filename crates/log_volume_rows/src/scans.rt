@@ -4,8 +4,6 @@ ghost use Rattle.std.specs.Prelude.{◌≡◌, length, IfOk};
 use crate::steps::Change::{Commit, Fill, Record};
 use crate::steps::{Step, page_of};
 use crate::volume::*;
-use image_open::{MountFault, Refusal};
-use image_read::scan_image;
 use log_images::{FIRST, changed_body, own};
 use log_recovery::{LogRefusal, RecoveryFault};
 use sector_device::{Device, MemoryDevice};
@@ -13,6 +11,7 @@ use std::alloc::{AllocError, Global};
 use std::process::Abort;
 use std::test::Fail;
 use utf16_name::Name;
+use volume_mount::{MountFault, Refusal, scan_image};
 
 // The first sector of record 10, and where the fourth unit of its name `$UpCase` stands in it.
 const RECORD: u64 = 52;

@@ -9,7 +9,7 @@ use Rattle.std.proofs.Math.ListN.{length-map}
 use Rattle.host_base.specs.declared.file_ref.FileRef.{FileRef}
 use Rattle.host_base.specs.FileRefs.{same_reference}
 use Rattle.disk_model.specs.Content.{Content}
-use Rattle.record_model.specs.Records.{Record}
+use Rattle.tree_laws.specs.record_model.Records.{Record}
 use Rattle.file_tree.specs.declared.link.Link.{Link}
 use Rattle.file_tree.specs.declared.node.Kind.{Kind}
 use Rattle.file_tree.specs.declared.node.Kind.TheVariants.{Directory, File, Fixed, Opaque, System}
@@ -19,15 +19,15 @@ use Rattle.file_tree.specs.Trees.{node_at as node_by_number, has_number, is_dire
 use Rattle.file_tree.specs.Walks.{root, at_some, first_user_record, passes_system}
 use Rattle.tree_model.specs.Refusals.{parent_of, is_system_kind, is_system_node}
 use Rattle.tree_model.specs.Refusals as tree
-use Rattle.state_model.specs.declared.stream.Stream.{Stream}
-use Rattle.state_model.specs.Files.{Table, file_at, file_links, links_at, record_links, is_directory_record, has_type}
-use Rattle.state_model.specs.Loads.{table_in}
-use Rattle.state_model.specs.Rules.{implies, at_file, is_partner, has_partner, long_count, keeps_names, keeps_1, keeps_8}
-use Rattle.state_model.specs.Trees.{first_parent, parent_at, leads, is_in_system, is_system, is_nameless, all_links}
-use Rattle.volume_model.specs.Volumes.{Volume, files_by_number, count_of, file_in, bytes_or}
-use Rattle.volume_model.specs.Nodes.{is_unread, is_unchanged, kind_in, node_with, node_by, some_node, node_at, nodes_by}
-use Rattle.volume_state.specs.Rules.{broken_1, broken_8}
-use Rattle.volume_state.specs.Trees.{Holds, tree_with, tree_of}
+use Rattle.tree_laws.specs.state_model.declared.stream.Stream.{Stream}
+use Rattle.tree_laws.specs.state_model.Files.{Table, file_at, file_links, links_at, record_links, is_directory_record, has_type}
+use Rattle.tree_laws.specs.state_model.Loads.{table_in}
+use Rattle.tree_laws.specs.state_model.Rules.{implies, at_file, is_partner, has_partner, long_count, keeps_names, keeps_1, keeps_8}
+use Rattle.tree_laws.specs.state_model.Trees.{first_parent, parent_at, leads, is_in_system, is_system, is_nameless, all_links}
+use Rattle.tree_laws.specs.volume_model.Volumes.{Volume, files_by_number, count_of, file_in, bytes_or}
+use Rattle.tree_laws.specs.volume_model.Nodes.{is_unread, is_unchanged, kind_in, node_with, node_by, some_node, node_at, nodes_by}
+use Rattle.tree_laws.specs.volume_state.Rules.{broken_1, broken_8}
+use Rattle.tree_laws.specs.volume_state.Trees.{Holds, tree_with, tree_of}
 use Rattle.tree_laws.proofs.Keeping.{passes_below, rules_of}
 use Rattle.tree_laws.proofs.Naming.{no_file}
 use Rattle.tree_laws.proofs.Numbering.{found_by_number}

@@ -9,17 +9,17 @@ use Rattle.std.proofs.lemmas.List.Sums.{length-filter}
 use Rattle.host_base.specs.declared.file_ref.FileRef.{FileRef}
 use Rattle.host_base.specs.FileRefs.{same_reference}
 use Rattle.disk_model.specs.Content.{Content}
-use Rattle.record_model.specs.Records.{Record}
+use Rattle.tree_laws.specs.record_model.Records.{Record}
 use Rattle.file_tree.specs.declared.link.Link.{Link}
 use Rattle.file_tree.specs.Names.{same_units}
 use Rattle.file_tree.specs.Trees.{is_in}
-use Rattle.state_model.specs.Files.{Table, file_at, links_at, reference, is_directory_record}
-use Rattle.state_model.specs.Loads.{table_in}
-use Rattle.state_model.specs.Rules.{same_link, is_directory_with, is_directory_at, keeps_2, count_in, names_in, is_rising, is_name_in, is_index}
-use Rattle.state_model.specs.Trees.{all_links}
-use Rattle.volume_model.specs.Volumes.{Volume, files_by_number, count_of, file_in, upper_of}
-use Rattle.volume_model.specs.Indexes.{index_links, keeps_index}
-use Rattle.volume_state.specs.Rules.{broken_2, broken_3}
+use Rattle.tree_laws.specs.state_model.Files.{Table, file_at, links_at, reference, is_directory_record}
+use Rattle.tree_laws.specs.state_model.Loads.{table_in}
+use Rattle.tree_laws.specs.state_model.Rules.{same_link, is_directory_with, is_directory_at, keeps_2, count_in, names_in, is_rising, is_name_in, is_index}
+use Rattle.tree_laws.specs.state_model.Trees.{all_links}
+use Rattle.tree_laws.specs.volume_model.Volumes.{Volume, files_by_number, count_of, file_in, upper_of}
+use Rattle.tree_laws.specs.volume_model.Indexes.{index_links, keeps_index}
+use Rattle.tree_laws.specs.volume_state.Rules.{broken_2, broken_3}
 use Rattle.tree_laws.proofs.Keeping.{passes_below}
 use Rattle.tree_laws.proofs.Listing.{index_listed}
 use Rattle.tree_laws.proofs.Naming.{no_file, no_names}

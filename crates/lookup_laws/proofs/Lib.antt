@@ -1,3 +1,4 @@
+pub use Rattle.tree_laws.proofs as tree_laws
 pub mod Among
 pub mod Rising
 pub mod Finding

@@ -6,14 +6,14 @@ use Rattle.std.specs.Option.{option_map}
 use Rattle.std.proofs.lemmas.Bool.{cases_lt, eq-eqb, ne_eqb}
 use Rattle.std.proofs.lemmas.List.Elements.{filter-append}
 use Rattle.std.proofs.lemmas.List.Sums.{length-filter}
-use Rattle.record_model.specs.Records.{Record}
+use Rattle.tree_laws.specs.record_model.Records.{Record}
 use Rattle.file_tree.specs.declared.link.Link.{Link}
 use Rattle.file_tree.specs.Trees.{is_of, is_long, long_names_of}
 use Rattle.tree_model.specs.Refusals.{parent_of}
-use Rattle.state_model.specs.Files.{links_at}
-use Rattle.state_model.specs.Loads.{table_in}
-use Rattle.state_model.specs.Rules.{long_count}
-use Rattle.state_model.specs.Trees.{first_parent, parent_at, all_links}
+use Rattle.tree_laws.specs.state_model.Files.{links_at}
+use Rattle.tree_laws.specs.state_model.Loads.{table_in}
+use Rattle.tree_laws.specs.state_model.Rules.{long_count}
+use Rattle.tree_laws.specs.state_model.Trees.{first_parent, parent_at, all_links}
 use Rattle.tree_laws.proofs.Ascending.{own_children}
 use Rattle.tree_laws.proofs.Naming.{no_names}
 use Rattle.lookup_laws.specs.Names.{front_link}

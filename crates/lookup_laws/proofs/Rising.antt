@@ -12,7 +12,7 @@ use Rattle.file_tree.specs.declared.link.Link.{Link}
 use Rattle.file_tree.specs.Names.{name_order, comes_before}
 use Rattle.file_tree.specs.Trees.{first_of_two, first_in_order, stands_before}
 use Rattle.file_tree.proofs.NameOrders.{name_order_total}
-use Rattle.state_model.specs.Rules.{is_rising}
+use Rattle.tree_laws.specs.state_model.Rules.{is_rising}
 use Rattle.lookup_laws.proofs.Among.{Among, Apart, every_among, from_among, passing}
 
 -- ---- the order

@@ -3,15 +3,15 @@ use Rattle.std.specs.Prelude.{◌≡◌, ℕ, true, List, Option, Some, None}
 use Rattle.std.specs.List.{filter}
 use Rattle.std.specs.List.Sorted.{IsPermutation}
 use Rattle.disk_model.specs.Content.{Content}
-use Rattle.record_model.specs.Records.{Record}
+use Rattle.tree_laws.specs.record_model.Records.{Record}
 use Rattle.file_tree.specs.declared.link.Link.{Link}
 use Rattle.file_tree.specs.Trees.{is_in, look_up, IsListing}
-use Rattle.state_model.specs.Files.{is_directory_record}
-use Rattle.state_model.specs.Rules.{is_rising}
-use Rattle.state_model.specs.Trees.{all_links}
-use Rattle.volume_model.specs.Volumes.{Volume, files_by_number, count_of, file_in, upper_of}
-use Rattle.volume_model.specs.Indexes.{index_links}
-use Rattle.volume_state.specs.Rules.{broken_2, broken_3}
+use Rattle.tree_laws.specs.state_model.Files.{is_directory_record}
+use Rattle.tree_laws.specs.state_model.Rules.{is_rising}
+use Rattle.tree_laws.specs.state_model.Trees.{all_links}
+use Rattle.tree_laws.specs.volume_model.Volumes.{Volume, files_by_number, count_of, file_in, upper_of}
+use Rattle.tree_laws.specs.volume_model.Indexes.{index_links}
+use Rattle.tree_laws.specs.volume_state.Rules.{broken_2, broken_3}
 use Rattle.lookup_laws.specs.Names.{named_so, chosen_of, long_units}
 
 -- These are the names that stand in this directory, among those of all files, and they rise. So no two of them have equal units.

@@ -2,19 +2,19 @@
 use Rattle.std.specs.Prelude.{◌≡◌, ℕ, Bool, not, ◌&&◌, ◌==◌, List, length, Option, Some}
 use Rattle.std.specs.List.{filter}
 use Rattle.disk_model.specs.Content.{Content}
-use Rattle.record_model.specs.Records.{Record}
+use Rattle.tree_laws.specs.record_model.Records.{Record}
 use Rattle.file_tree.specs.declared.tree.Tree.{Tree}
 use Rattle.file_tree.specs.Trees.{is_of, long_names_of}
 use Rattle.file_tree.specs.Walks.{root}
 use Rattle.tree_model.specs.Refusals.{parent_of, is_system_node}
-use Rattle.state_model.specs.declared.stream.Stream.{Stream}
-use Rattle.state_model.specs.Files.{links_at, record_links, is_directory_record}
-use Rattle.state_model.specs.Loads.{table_in}
-use Rattle.state_model.specs.Rules.{long_count}
-use Rattle.state_model.specs.Trees.{parent_at, is_system, all_links}
-use Rattle.volume_model.specs.Volumes.{Volume, files_by_number, count_of, file_in}
-use Rattle.volume_model.specs.Nodes.{node_by}
-use Rattle.volume_state.specs.Trees.{Holds}
+use Rattle.tree_laws.specs.state_model.declared.stream.Stream.{Stream}
+use Rattle.tree_laws.specs.state_model.Files.{links_at, record_links, is_directory_record}
+use Rattle.tree_laws.specs.state_model.Loads.{table_in}
+use Rattle.tree_laws.specs.state_model.Rules.{long_count}
+use Rattle.tree_laws.specs.state_model.Trees.{parent_at, is_system, all_links}
+use Rattle.tree_laws.specs.volume_model.Volumes.{Volume, files_by_number, count_of, file_in}
+use Rattle.tree_laws.specs.volume_model.Nodes.{node_by}
+use Rattle.tree_laws.specs.volume_state.Trees.{Holds}
 
 -- The names of a file among those of all are its own, in their order: so many of them are long, and the first one says its directory.
 pub record NamesByFile : Type 0 where

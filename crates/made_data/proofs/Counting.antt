@@ -5,21 +5,21 @@ use Rattle.std.specs.List.{filter, list_any}
 use Rattle.record_model.specs.declared.attribute.Attr.{Attr}
 use Rattle.record_model.specs.Constants.{data_type}
 use Rattle.record_model.specs.Records.{Record, spelled_bytes}
-use Rattle.record_writer.specs.Normal.{normal}
+use Rattle.data_plan.specs.record_writer.Normal.{normal}
 use Rattle.file_tree.specs.declared.node.Node.{Node}
-use Rattle.state_model.specs.declared.stream.Stream.{Stream}
-use Rattle.state_model.specs.Loads.{total_clusters}
-use Rattle.state_model.specs.Streams.{is_attribute_of}
-use Rattle.stream_laws.specs.Sharing.{runs_in}
+use Rattle.data_plan.specs.state_model.declared.stream.Stream.{Stream}
+use Rattle.data_plan.specs.state_model.Loads.{total_clusters}
+use Rattle.data_plan.specs.state_model.Streams.{is_attribute_of}
+use Rattle.data_plan.specs.stream_laws.Sharing.{runs_in}
 use Rattle.tree_model.specs.declared.script.Op.{Op}
 use Rattle.tree_model.specs.Needs.{size_after, shrinks}
 use Rattle.tree_model.specs.Effects.{valid_after, clusters_after}
-use Rattle.draft_records.specs.Records.{written_record}
-use Rattle.step_model.specs.Placing.{Growth, runs_after}
-use Rattle.step_model.specs.Used.{is_replaced, attrs_with, used_after, own_attr, value_attr, placed_attr, is_in_record, stays_in}
-use Rattle.step_model.specs.Streams.{Comes, in_record, placed_among, in_clusters, comes, data_of, wanted_data, data_comes}
-use Rattle.step_model.specs.Plans.{full_row}
-use Rattle.used_laws.proofs.Lengths.{filter_yes, filter_no, bytes-append, written_used}
+use Rattle.data_plan.specs.draft_records.Records.{written_record}
+use Rattle.data_plan.specs.step_model.Placing.{Growth, runs_after}
+use Rattle.data_plan.specs.step_model.Used.{is_replaced, attrs_with, used_after, own_attr, value_attr, placed_attr, is_in_record, stays_in}
+use Rattle.data_plan.specs.step_model.Streams.{Comes, in_record, placed_among, in_clusters, comes, data_of, wanted_data, data_comes}
+use Rattle.data_plan.specs.step_model.Plans.{full_row}
+use Rattle.data_plan.proofs.used_laws.Lengths.{filter_yes, filter_no, bytes-append, written_used}
 use Rattle.data_plan.specs.Changes.{data_in, row_of}
 
 -- ---- attributes as they are written

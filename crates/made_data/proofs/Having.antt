@@ -9,23 +9,23 @@ use Rattle.record_model.specs.declared.attribute.Attr.{Attr}
 use Rattle.record_model.specs.Constants.{data_type}
 use Rattle.record_model.specs.Records.{Record, spelled_bytes}
 use Rattle.record_model.specs.Values.{has_lawful_value}
-use Rattle.record_writer.specs.Normal.{normal}
-use Rattle.record_writer.proofs.Measures.{length-spelling, spelled_count}
+use Rattle.data_plan.specs.record_writer.Normal.{normal}
+use Rattle.data_plan.proofs.record_writer.Measures.{length-spelling, spelled_count}
 use Rattle.file_tree.specs.declared.node.Node.{Node}
-use Rattle.state_model.specs.declared.stream.Stream.TheVariants.{Held}
-use Rattle.state_model.specs.Files.{has_type}
-use Rattle.state_model.specs.Loads.{has_all_pairs}
-use Rattle.state_model.specs.Streams.{is_attribute_of, attributes_of, sorted_into, joined, stream_of}
-use Rattle.volume_model.specs.Volumes.{size_or}
-use Rattle.volume_model.specs.Nodes.{valid_or, clusters_or}
+use Rattle.data_plan.specs.state_model.declared.stream.Stream.TheVariants.{Held}
+use Rattle.data_plan.specs.state_model.Files.{has_type}
+use Rattle.data_plan.specs.state_model.Loads.{has_all_pairs}
+use Rattle.data_plan.specs.state_model.Streams.{is_attribute_of, attributes_of, sorted_into, joined, stream_of}
+use Rattle.data_plan.specs.volume_model.Volumes.{size_or}
+use Rattle.data_plan.specs.volume_model.Nodes.{valid_or, clusters_or}
 use Rattle.tree_model.specs.declared.script.Op.{Op}
-use Rattle.draft_records.specs.Records.{written_bytes}
-use Rattle.record_streams.specs.Fitting.{IsShort, FitsButRoom}
+use Rattle.data_plan.specs.draft_records.Records.{written_bytes}
+use Rattle.data_plan.specs.record_streams.Fitting.{IsShort, FitsButRoom}
 use Rattle.made_data.specs.Ids.{place_of, new_id}
-use Rattle.step_model.specs.Used.{is_replaced, used_after, new_attr, first_or, own_attr}
-use Rattle.step_model.specs.Streams.{Comes, data_comes}
-use Rattle.used_laws.proofs.Lengths.{filter_yes, written_used}
-use Rattle.used_laws.proofs.Beside.{one_more}
+use Rattle.data_plan.specs.step_model.Used.{is_replaced, used_after, new_attr, first_or, own_attr}
+use Rattle.data_plan.specs.step_model.Streams.{Comes, data_comes}
+use Rattle.data_plan.proofs.used_laws.Lengths.{filter_yes, written_used}
+use Rattle.data_plan.proofs.used_laws.Beside.{one_more}
 use Rattle.data_plan.specs.Changes.{data_in, ShowsData, BeginsAtZero, StandsBelow, HasData, growth_of, row_of}
 use Rattle.data_plan.specs.Laws.{HasMadeData, DataMade}
 use Rattle.made_data.specs.Made.{empty_data, with_empty_data, made_record, has_data}

@@ -14,16 +14,16 @@ use Rattle.record_model.specs.declared.attribute.OwnForm.TheVariants.{Resident, 
 use Rattle.record_model.specs.Attributes.{filled, spelling, FitsAttr, FitsForm}
 use Rattle.record_model.specs.Records.{Record, spelled_bytes}
 use Rattle.record_model.specs.Values.{has_lawful_value}
-use Rattle.record_writer.specs.Fitting.{rise_from}
-use Rattle.record_writer.specs.Normal.{normal, normal_form}
-use Rattle.record_writer.proofs.NormalRoom.{rise_stays}
-use Rattle.record_writer.proofs.Rising.{rise_true, true_rise}
-use Rattle.record_writer.proofs.Staying.{all_stand}
-use Rattle.state_model.specs.Loads.{has_fitting_pairs, has_all_pairs}
-use Rattle.draft_records.specs.Records.{is_name, written_record}
-use Rattle.record_streams.specs.Fitting.{IsShort, FitsButRoom}
+use Rattle.data_plan.specs.record_writer.Fitting.{rise_from}
+use Rattle.data_plan.specs.record_writer.Normal.{normal, normal_form}
+use Rattle.data_plan.proofs.record_writer.NormalRoom.{rise_stays}
+use Rattle.data_plan.proofs.record_writer.Rising.{rise_true, true_rise}
+use Rattle.data_plan.proofs.record_writer.Staying.{all_stand}
+use Rattle.data_plan.specs.state_model.Loads.{has_fitting_pairs, has_all_pairs}
+use Rattle.data_plan.specs.draft_records.Records.{is_name, written_record}
+use Rattle.data_plan.specs.record_streams.Fitting.{IsShort, FitsButRoom}
 use Rattle.made_data.specs.Ids.{is_lesser, is_before, place_of, first_free, or_zero, new_id, with_id, with_attr}
-use Rattle.used_laws.proofs.Lengths.{filter_yes, filter_no}
+use Rattle.data_plan.proofs.used_laws.Lengths.{filter_yes, filter_no}
 
 -- ---- tests of attributes
 

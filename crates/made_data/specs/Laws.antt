@@ -4,15 +4,15 @@ use Rattle.record_model.specs.declared.attribute.Attr.{Attr}
 use Rattle.record_model.specs.Constants.{data_type}
 use Rattle.record_model.specs.Records.{Record}
 use Rattle.file_tree.specs.declared.node.Node.{Node}
-use Rattle.state_model.specs.declared.stream.Stream.TheVariants.{Held}
-use Rattle.state_model.specs.Files.{has_type}
-use Rattle.state_model.specs.Loads.{has_all_pairs}
-use Rattle.state_model.specs.Streams.{attributes_of}
+use Rattle.data_plan.specs.state_model.declared.stream.Stream.TheVariants.{Held}
+use Rattle.data_plan.specs.state_model.Files.{has_type}
+use Rattle.data_plan.specs.state_model.Loads.{has_all_pairs}
+use Rattle.data_plan.specs.state_model.Streams.{attributes_of}
 use Rattle.tree_model.specs.declared.script.Op.{Op}
 use Rattle.made_data.specs.Ids.{new_id}
-use Rattle.record_streams.specs.Fitting.{FitsButRoom}
-use Rattle.draft_records.specs.Records.{written_bytes}
-use Rattle.step_model.specs.Used.{used_after, own_attr}
+use Rattle.data_plan.specs.record_streams.Fitting.{FitsButRoom}
+use Rattle.data_plan.specs.draft_records.Records.{written_bytes}
+use Rattle.data_plan.specs.step_model.Used.{used_after, own_attr}
 use Rattle.data_plan.specs.Changes.{data_in, ShowsData, HasData, growth_of, row_of}
 use Rattle.data_plan.specs.Laws.{HasMadeData}
 use Rattle.made_data.specs.Made.{empty_data, with_empty_data, made_record, has_data}

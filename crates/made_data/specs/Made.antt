@@ -5,9 +5,9 @@ use Rattle.record_model.specs.declared.attribute.Attr.{Attr}
 use Rattle.record_model.specs.declared.attribute.OwnForm.TheVariants.{Resident}
 use Rattle.record_model.specs.Constants.{data_type}
 use Rattle.record_model.specs.Records.{Record}
-use Rattle.state_model.specs.Streams.{is_attribute_of}
+use Rattle.data_plan.specs.state_model.Streams.{is_attribute_of}
 use Rattle.made_data.specs.Ids.{with_attr}
-use Rattle.draft_records.specs.Records.{written_record}
+use Rattle.data_plan.specs.draft_records.Records.{written_record}
 
 -- some attribute is of its unnamed data
 unfoldable pub has_data : Record → Bool

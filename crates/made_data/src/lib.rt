@@ -10,7 +10,7 @@ mod laws;
 mod making;
 mod putting;
 
-pub use file_record::FileRec;
+pub use data_plan::FileRec;
 pub use laws::made_is_counted;
 pub use making::{has_data, make_data};
 pub use putting::{with_attr, written};

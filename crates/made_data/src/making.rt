@@ -3,11 +3,10 @@ ghost use Rattle.std.specs.Prelude.{◌≡◌, ◌<◌, ◌^◌, IfOk, length};
 ghost use Rattle.made_data.specs.Made.{empty_data, with_empty_data, made_record, has_data};
 
 use crate::putting::{with_attr, written};
-use file_record::FileRec;
+use data_plan::{FileRec, is_attribute_of};
 use host_base::Bytes;
 use record_model::{Attr, DATA, Head, OwnForm};
 use std::alloc::{AllocError, Global};
-use stream_map::is_attribute_of;
 use utf16_name::Units;
 
 /// Whether a file's record has unnamed data (Linux-NTFS documentation, "$DATA"), as a value or in

@@ -1,11 +1,10 @@
 //! Records that get attributes, and records as they are written.
 ghost use Rattle.std.specs.Prelude.{◌≡◌, ◌≤◌, ◌<◌, ◌^◌, [], ◌∷◌, IfOk, OnOk, is_some, length};
 ghost use Rattle.made_data.specs.Ids.{is_lesser, is_before, place_of, has_id, first_free, or_zero, free_id, new_id, with_next_id, with_id, with_attr};
-ghost use Rattle.draft_records.specs.Records.{name_count, with_links, with_normal, written_record};
+ghost use Rattle.data_plan.specs.draft_records.Records.{name_count, with_links, with_normal, written_record};
 
-use file_record::FileRec;
+use data_plan::{FileRec, normal_attr, push_copies};
 use record_model::{Attr, FILE_NAME, Head, RecHead};
-use record_writer::{normal_attr, push_copies};
 use std::alloc::{AllocError, Global};
 
 // The last id of an attribute.

@@ -17,16 +17,16 @@ use Rattle.stream_laws.specs.Places.{AreOnce}
 use Rattle.stream_laws.specs.Sharing.{StreamKey, runs_in}
 use Rattle.stream_laws.proofs.Bitmapping.{record_bit}
 use Rattle.stream_laws.proofs.Sharing.{stream_once}
-use Rattle.plan_owners.specs.States.{Stands}
-use Rattle.plan_owners.proofs.Outside.{once}
+use Rattle.file_makes.specs.plan_owners.States.{Stands}
+use Rattle.file_makes.proofs.plan_owners.Outside.{once}
 use Rattle.plan_draft.specs.declared.touched.Touched.{Touched}
 use Rattle.plan_draft.specs.Drafts.{drafted}
 use Rattle.draft_streams.specs.Effects.{HasOwnSectors}
 use Rattle.draft_bits.specs.Filling.{PutsBits}
 use Rattle.draft_bits.specs.Effects.{stream_bit, IsKept}
 use Rattle.draft_bits.proofs.BitEffects.{bits_put}
-use Rattle.plan_edits.proofs.Bitmap.{own_by}
-use Rattle.plan_edits.proofs.Editing.{some_of}
+use Rattle.file_makes.proofs.plan_edits.Bitmap.{own_by}
+use Rattle.file_makes.proofs.plan_edits.Editing.{some_of}
 use Rattle.made_files.specs.Made.{HasNumbers}
 
 bit_in : (c : Content) (per : ℕ) (e : Extents) (o : Option Stream) (x : ℕ) → o ≡ Some (Placed e) → x / 8 < e.real → byte_bit (bytes_or c per o) x ≡ stream_bit c per e x

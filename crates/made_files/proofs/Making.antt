@@ -26,12 +26,12 @@ use Rattle.index_model.specs.Indexes.{Place, node_block, node_of_block, nodes_of
 use Rattle.index_model.specs.Laws.{HoldsIndex}
 use Rattle.index_model.proofs.WalkLaw.{walk_passes}
 use Rattle.index_plan.specs.Search.{put}
-use Rattle.index_change.specs.declared.nodes_plan.NodesPlan.{NodesPlan}
-use Rattle.index_change.specs.declared.plan.DirPlan.{DirPlan}
-use Rattle.index_change.specs.Changing.{uses}
-use Rattle.index_change.specs.Orders.{goes, link_of, put_link}
-use Rattle.index_change.specs.Plans.{root_room, seventeen, needs_level, NewIndex, TakesLittle}
-use Rattle.index_change.proofs.Joining.{plans_join}
+use Rattle.file_makes.specs.index_change.declared.nodes_plan.NodesPlan.{NodesPlan}
+use Rattle.file_makes.specs.index_change.declared.plan.DirPlan.{DirPlan}
+use Rattle.file_makes.specs.index_change.Changing.{uses}
+use Rattle.file_makes.specs.index_change.Orders.{goes, link_of, put_link}
+use Rattle.file_makes.specs.index_change.Plans.{root_room, seventeen, needs_level, NewIndex, TakesLittle}
+use Rattle.file_makes.proofs.index_change.Joining.{plans_join}
 use Rattle.index_places.proofs.Numbered.{in_stream, numbered}
 use Rattle.state_model.specs.declared.geometry.Geometry.{Geometry}
 use Rattle.state_model.specs.declared.stream.Extents.{Extents}
@@ -58,41 +58,41 @@ use Rattle.stream_laws.proofs.Loading.{same_record_bits}
 use Rattle.stream_laws.proofs.Placing.{one_place}
 use Rattle.stream_laws.proofs.Sharing.{stream_once}
 use Rattle.stream_laws.proofs.Tabling.{inside_list, table_runs}
-use Rattle.tree_laws.specs.Planned.{IsInRecord}
-use Rattle.tree_laws.proofs.Keeping.{rules_of, passes_below}
-use Rattle.tree_laws.proofs.Listing.{index_listed}
-use Rattle.plan_owners.specs.States.{Stands}
-use Rattle.plan_owners.proofs.Outside.{once}
-use Rattle.plan_owners.proofs.Standing.{begins, some_file, streams_at}
+use Rattle.file_makes.specs.tree_laws.Planned.{IsInRecord}
+use Rattle.file_makes.proofs.tree_laws.Keeping.{rules_of, passes_below}
+use Rattle.file_makes.proofs.tree_laws.Listing.{index_listed}
+use Rattle.file_makes.specs.plan_owners.States.{Stands}
+use Rattle.file_makes.proofs.plan_owners.Outside.{once}
+use Rattle.file_makes.proofs.plan_owners.Standing.{begins, some_file, streams_at}
 use Rattle.plan_bodies.specs.Bodies.{NewBody, whole_write, AreBodies, body_in, content_with}
 use Rattle.plan_bodies.proofs.Putting.{block_itself, sized_with, either}
 use Rattle.plan_draft.specs.declared.touched.Touched.{Touched}
 use Rattle.plan_draft.specs.Touching.{bodies_of}
 use Rattle.plan_draft.specs.Drafts.{drafted}
-use Rattle.plan_model.specs.Attributes.{RewritesValues}
-use Rattle.plan_model.specs.Edits.{IsOwnedIn}
-use Rattle.plan_model.specs.Made.{is_info_or_root, ReadsAs, made_streams, made_edits, MakesFile}
-use Rattle.plan_model.proofs.Drafting.{per_is}
-use Rattle.plan_model.proofs.Informing.{slot_in_use, marked_in_use}
-use Rattle.plan_model.proofs.OneRecord.{OwnRecord, own_record}
-use Rattle.plan_model.proofs.PlannedIndexing.{one_put, put_rises, planned_after}
-use Rattle.plan_model.proofs.Rewriting.{same_stream}
+use Rattle.file_makes.specs.plan_model.Attributes.{RewritesValues}
+use Rattle.file_makes.specs.plan_model.Edits.{IsOwnedIn}
+use Rattle.file_makes.specs.plan_model.Made.{is_info_or_root, ReadsAs, made_streams, made_edits, MakesFile}
+use Rattle.file_makes.proofs.plan_model.Drafting.{per_is}
+use Rattle.file_makes.proofs.plan_model.Informing.{slot_in_use, marked_in_use}
+use Rattle.file_makes.proofs.plan_model.OneRecord.{OwnRecord, own_record}
+use Rattle.file_makes.proofs.plan_model.PlannedIndexing.{one_put, put_rises, planned_after}
+use Rattle.file_makes.proofs.plan_model.Rewriting.{same_stream}
 use Rattle.draft_bits.specs.Filling.{PutsBits, first_past}
 use Rattle.draft_bits.specs.Effects.{IsKept}
 use Rattle.draft_bits.proofs.BitEffects.{bits_put, drafted_same}
-use Rattle.draft_records.specs.Records.{record_block, is_past, written_record, touch_if, touch_record}
-use Rattle.draft_resized.proofs.FileEffects.{long_of}
-use Rattle.record_streams.proofs.Streams.{attribute_kind}
-use Rattle.plan_edits.specs.Written.{IsInUse}
-use Rattle.plan_edits.specs.Puts.{IsSectorOf, IsSectorWith}
-use Rattle.plan_edits.specs.Moves.{EditsDraft}
-use Rattle.plan_edits.proofs.Bitmap.{shares_itself}
-use Rattle.plan_edits.proofs.Editing.{same_bytes, used_block, some_of}
-use Rattle.plan_edits.proofs.Putting.{Goes, goes_behind, bytes_go, record_goes, content_goes}
-use Rattle.plan_edits.proofs.Reading.{written_read}
-use Rattle.new_files.specs.Laws.{ReadsNewFile, NewFileReads}
-use Rattle.file_puts.specs.declared.streams.VolumeStreams.{VolumeStreams}
-use Rattle.file_puts.specs.Puts.{PutsFileRecord}
+use Rattle.file_makes.specs.draft_records.Records.{record_block, is_past, written_record, touch_if, touch_record}
+use Rattle.file_makes.proofs.draft_resized.FileEffects.{long_of}
+use Rattle.file_makes.proofs.record_streams.Streams.{attribute_kind}
+use Rattle.file_makes.specs.plan_edits.Written.{IsInUse}
+use Rattle.file_makes.specs.plan_edits.Puts.{IsSectorOf, IsSectorWith}
+use Rattle.file_makes.specs.plan_edits.Moves.{EditsDraft}
+use Rattle.file_makes.proofs.plan_edits.Bitmap.{shares_itself}
+use Rattle.file_makes.proofs.plan_edits.Editing.{same_bytes, used_block, some_of}
+use Rattle.file_makes.proofs.plan_edits.Putting.{Goes, goes_behind, bytes_go, record_goes, content_goes}
+use Rattle.file_makes.proofs.plan_edits.Reading.{written_read}
+use Rattle.file_makes.specs.new_files.Laws.{ReadsNewFile, NewFileReads}
+use Rattle.file_makes.specs.file_puts.declared.streams.VolumeStreams.{VolumeStreams}
+use Rattle.file_makes.specs.file_puts.Puts.{PutsFileRecord}
 use Rattle.file_makes.specs.declared.newfile.NewFile.{NewFile}
 use Rattle.file_makes.specs.Making.{touch_nodes, made_lsn, made_record, rooted_record}
 use Rattle.made_files.specs.Made.{made_link, made_key, rooted_directory, MakesOfVolume, IsMadeEdit, MadeIsEdit}

@@ -17,7 +17,7 @@ use Rattle.index_model.specs.Indexes.{Place, node_block}
 use Rattle.index_plan.specs.declared.write.Write.{Write}
 use Rattle.index_plan.specs.Paths.{written_vcns}
 use Rattle.index_node.specs.Roots.{new_node}
-use Rattle.index_change.specs.Changing.{PutNodes, changes_in}
+use Rattle.file_makes.specs.index_change.Changing.{PutNodes, changes_in}
 use Rattle.plan_bodies.specs.Bodies.{NewBody, AreBodies, AreOfOwnBlocks, AreWhole as AreWholeBodies, body_in, body_or, writes_in}
 use Rattle.plan_bodies.proofs.Putting.{body_put, block_itself, same_through}
 use Rattle.plan_draft.specs.declared.touched.Touched.{Touched}
@@ -27,7 +27,7 @@ use Rattle.plan_draft.proofs.Puts.{bodies_touch}
 use Rattle.plan_draft.proofs.Same.{one_in_order}
 use Rattle.plan_draft.proofs.Touching.{are_bodies}
 use Rattle.draft_bits.specs.Effects.{IsKept}
-use Rattle.plan_edits.proofs.Putting.{Goes, goes_behind, touches, each_turned}
+use Rattle.file_makes.proofs.plan_edits.Putting.{Goes, goes_behind, touches, each_turned}
 use Rattle.file_makes.specs.Making.{touch_nodes, IsWhole}
 
 -- ---- what is put, said of more blocks and of fewer

@@ -9,22 +9,22 @@ use Rattle.record_model.specs.declared.attribute.OwnForm.{OwnForm}
 use Rattle.record_model.specs.declared.attribute.OwnForm.TheVariants.{Resident, Mapped}
 use Rattle.record_model.specs.Constants.{index_root, names_index, standard_information}
 use Rattle.record_model.specs.Records.{Record}
-use Rattle.record_writer.specs.Normal.{normal_form, normal}
+use Rattle.file_makes.specs.record_writer.Normal.{normal_form, normal}
 use Rattle.state_model.specs.Indexes.{is_names_root}
 use Rattle.state_model.specs.Loads.{total_clusters, has_fitting_pairs, has_all_pairs}
 use Rattle.state_model.specs.Streams.{is_attribute_of, first_vcn, with_attribute, sorted_into, attributes_of, attribute_runs, form_first, form_runs}
 use Rattle.volume_model.specs.Indexes.{form_value, attr_value, root_value}
 use Rattle.volume_model.specs.Sizes.{are_joined, follow, keeps_stream}
-use Rattle.plan_model.specs.Attributes.{IsValue, IsRewritten, AreRewritten, RewritesValues}
-use Rattle.plan_model.specs.Made.{is_info_or_root}
-use Rattle.plan_model.proofs.Rewriting.{all_same}
-use Rattle.record_streams.specs.Placing.{without_stream, with_stream}
-use Rattle.record_streams.proofs.Streams.{attribute_kind, first_passes, own_with}
-use Rattle.record_values.specs.Values.{valued_attr, valued_first}
-use Rattle.draft_records.specs.Records.{written_record}
-use Rattle.plan_growth.proofs.Placed.{stream_rule}
-use Rattle.plan_values.proofs.Made.{none_pass}
-use Rattle.plan_edits.specs.Written.{IsInUse}
+use Rattle.file_makes.specs.plan_model.Attributes.{IsValue, IsRewritten, AreRewritten, RewritesValues}
+use Rattle.file_makes.specs.plan_model.Made.{is_info_or_root}
+use Rattle.file_makes.proofs.plan_model.Rewriting.{all_same}
+use Rattle.file_makes.specs.record_streams.Placing.{without_stream, with_stream}
+use Rattle.file_makes.proofs.record_streams.Streams.{attribute_kind, first_passes, own_with}
+use Rattle.file_makes.specs.record_values.Values.{valued_attr, valued_first}
+use Rattle.file_makes.specs.draft_records.Records.{written_record}
+use Rattle.file_makes.proofs.plan_growth.Placed.{stream_rule}
+use Rattle.file_makes.proofs.plan_values.Made.{none_pass}
+use Rattle.file_makes.specs.plan_edits.Written.{IsInUse}
 use Rattle.file_makes.specs.Making.{rooted_record}
 
 -- ---- attributes of a stream, and those that a sort has

@@ -7,7 +7,7 @@ use Rattle.disk_model.specs.declared.block.BlockKind.TheVariants.{Plain, FileRec
 use Rattle.disk_model.specs.Content.{Content, HasSizes}
 use Rattle.record_model.specs.Constants.{attribute_list}
 use Rattle.record_model.specs.Records.{Record}
-use Rattle.record_writer.specs.Normal.{normal}
+use Rattle.file_makes.specs.record_writer.Normal.{normal}
 use Rattle.file_tree.specs.declared.link.Link.{Link}
 use Rattle.file_tree.specs.Walks.{first_user_record}
 use Rattle.bit_set.specs.Bits.{bit}
@@ -17,12 +17,12 @@ use Rattle.index_model.specs.Indexes.{node_block, links_of}
 use Rattle.index_model.specs.Laws.{HoldsIndex}
 use Rattle.index_plan.specs.Laws.{Once}
 use Rattle.index_plan.specs.Search.{put}
-use Rattle.index_change.specs.declared.nodes_plan.NodesPlan.{NodesPlan}
-use Rattle.index_change.specs.declared.plan.DirPlan.{DirPlan}
-use Rattle.index_change.specs.Changing.{IsLaidOut, uses}
-use Rattle.index_change.specs.NodePlans.{PlansNodes, TakesFront}
-use Rattle.index_change.specs.Orders.{goes, link_of, put_link}
-use Rattle.index_change.specs.Plans.{root_room, seventeen, needs_level, NewIndex, TakesLittle}
+use Rattle.file_makes.specs.index_change.declared.nodes_plan.NodesPlan.{NodesPlan}
+use Rattle.file_makes.specs.index_change.declared.plan.DirPlan.{DirPlan}
+use Rattle.file_makes.specs.index_change.Changing.{IsLaidOut, uses}
+use Rattle.file_makes.specs.index_change.NodePlans.{PlansNodes, TakesFront}
+use Rattle.file_makes.specs.index_change.Orders.{goes, link_of, put_link}
+use Rattle.file_makes.specs.index_change.Plans.{root_room, seventeen, needs_level, NewIndex, TakesLittle}
 use Rattle.state_model.specs.declared.geometry.Geometry.{Geometry}
 use Rattle.state_model.specs.declared.stream.Extents.{Extents}
 use Rattle.state_model.specs.declared.stream.Stream.TheVariants.{Placed}
@@ -31,19 +31,19 @@ use Rattle.state_model.specs.Streams.{block_at}
 use Rattle.volume_model.specs.Indexes.{void_block, index_place, root_value}
 use Rattle.volume_model.specs.Volumes.{Volume, count_of, file_in, record_bits, record_bitmap, upper_of}
 use Rattle.volume_state.specs.Journals.{extend_file}
-use Rattle.plan_owners.specs.States.{Stands}
+use Rattle.file_makes.specs.plan_owners.States.{Stands}
 use Rattle.plan_bodies.specs.Bodies.{NewBody}
 use Rattle.plan_draft.specs.declared.touched.Touched.{Touched}
 use Rattle.plan_draft.specs.Drafts.{drafted}
-use Rattle.plan_model.specs.Informed.{IsApart}
-use Rattle.plan_model.specs.Made.{MakesFile}
-use Rattle.plan_model.specs.PlannedIndexes.{AreBeside}
+use Rattle.file_makes.specs.plan_model.Informed.{IsApart}
+use Rattle.file_makes.specs.plan_model.Made.{MakesFile}
+use Rattle.file_makes.specs.plan_model.PlannedIndexes.{AreBeside}
 use Rattle.draft_bits.specs.Effects.{IsKept}
-use Rattle.draft_records.specs.Records.{written_record}
-use Rattle.plan_edits.specs.Moves.{EditsDraft}
-use Rattle.new_files.specs.NewFiles.{new_key, link_in}
-use Rattle.file_puts.specs.declared.streams.VolumeStreams.{VolumeStreams}
-use Rattle.file_puts.specs.Written.{AreStreamsOf}
+use Rattle.file_makes.specs.draft_records.Records.{written_record}
+use Rattle.file_makes.specs.plan_edits.Moves.{EditsDraft}
+use Rattle.file_makes.specs.new_files.NewFiles.{new_key, link_in}
+use Rattle.file_makes.specs.file_puts.declared.streams.VolumeStreams.{VolumeStreams}
+use Rattle.file_makes.specs.file_puts.Written.{AreStreamsOf}
 use Rattle.file_makes.specs.declared.newfile.NewFile.{NewFile}
 use Rattle.file_makes.specs.Making.{made_record, rooted_record, PutsMade}
 

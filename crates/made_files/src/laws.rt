@@ -1,7 +1,7 @@
 //! The laws of these definitions.
 ghost use Rattle.made_files.specs.Made.{MadeIsEdit};
 
-use new_files::new_file_reads;
+use file_makes::new_file_reads;
 
 /// Law: where a draft has put a new file, with its entry in the directory's index and the bit of its
 /// number, what was put is the edit of a plan that makes the file.

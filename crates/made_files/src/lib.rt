@@ -6,4 +6,5 @@
 
 mod laws;
 
+pub use file_makes::{new_file_reads, times_are_set};
 pub use laws::made_is_edit;

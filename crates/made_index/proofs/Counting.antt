@@ -23,11 +23,11 @@ use Rattle.stream_laws.specs.Sharing.{runs_in}
 use Rattle.resized_streams.specs.Resizing.{unplaced}
 use Rattle.record_streams.proofs.Streams.{attribute_kind, first_passes}
 use Rattle.volume_model.specs.Volumes.{size_or}
-use Rattle.step_model.specs.Placing.{Growth, runs_after}
-use Rattle.step_model.specs.Used.{is_replaced, attrs_with, used_after, new_attr, first_or, own_attr, value_attr, placed_attr, stays_in}
-use Rattle.step_model.specs.Streams.{Wanted, Comes, Changed, in_record, placed_among, in_clusters, comes, root_comes, info_comes, own_comes, blocks_key, used_key, wanted_size, wanted_blocks, wanted_used, index_comes}
-use Rattle.step_model.specs.Plans.{full_row}
-use Rattle.used_laws.proofs.Lengths.{bytes-append}
+use Rattle.made_data.specs.step_model.Placing.{Growth, runs_after}
+use Rattle.made_data.specs.step_model.Used.{is_replaced, attrs_with, used_after, new_attr, first_or, own_attr, value_attr, placed_attr, stays_in}
+use Rattle.made_data.specs.step_model.Streams.{Wanted, Comes, Changed, in_record, placed_among, in_clusters, comes, root_comes, info_comes, own_comes, blocks_key, used_key, wanted_size, wanted_blocks, wanted_used, index_comes}
+use Rattle.made_data.specs.step_model.Plans.{full_row}
+use Rattle.made_data.proofs.used_laws.Lengths.{bytes-append}
 use Rattle.made_data.specs.Ids.{place_of, new_id, with_id}
 use Rattle.made_data.proofs.Counting.{used_kept}
 use Rattle.made_data.proofs.Standing.{others_pass, kept_put}

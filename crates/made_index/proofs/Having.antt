@@ -26,9 +26,9 @@ use Rattle.record_streams.specs.Placing.{placed_sizes}
 use Rattle.record_streams.specs.Fitting.{IsShort, IsPlaceable, FitsButRoom}
 use Rattle.record_streams.proofs.Spelled.{lawful_by, short_placed}
 use Rattle.resized_streams.specs.Resizing.{unplaced}
-use Rattle.step_model.specs.Used.{new_attr, first_or, own_attr, value_attr}
-use Rattle.step_model.specs.Streams.{root_comes, info_comes, own_comes}
-use Rattle.data_plan.specs.Changes.{BeginsAtZero, StandsBelow}
+use Rattle.made_data.specs.step_model.Used.{new_attr, first_or, own_attr, value_attr}
+use Rattle.made_data.specs.step_model.Streams.{root_comes, info_comes, own_comes}
+use Rattle.made_data.specs.data_plan.Changes.{BeginsAtZero, StandsBelow}
 use Rattle.made_data.specs.Ids.{place_of, new_id, with_id, with_attr}
 use Rattle.made_data.proofs.Counting.{kept, any_kept}
 use Rattle.made_data.proofs.Standing.{any_put, any_same, none_pass, one_passes, others_pass, size_put, attr_fits, attr_pairs, written_fits, written_pairs}

@@ -11,7 +11,7 @@ use Rattle.record_model.specs.Constants.{index_allocation, bitmap_type, names_in
 use Rattle.record_model.specs.Pairs.{pairs_of, pairs_from}
 use Rattle.record_model.specs.Records.{Record}
 use Rattle.record_writer.specs.Normal.{normal, normal_form}
-use Rattle.used_laws.specs.Laws.{AreFormBytes, HasBytes}
+use Rattle.made_data.specs.used_laws.Laws.{AreFormBytes, HasBytes}
 use Rattle.made_data.specs.Ids.{place_of}
 use Rattle.directory_growth.specs.Growing.{root_bytes}
 use Rattle.directory_growth.specs.Laws.{IndexHasRoom}

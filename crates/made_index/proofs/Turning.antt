@@ -9,13 +9,13 @@ use Rattle.volume_model.specs.Volumes.{size_or}
 use Rattle.tree_model.specs.declared.reply.Reply.{Reply}
 use Rattle.space_model.specs.Choosing.{with_runs}
 use Rattle.plan_space.specs.Choices.{TakesFirst}
-use Rattle.step_model.specs.Placing.{Growth, more_of, taken_runs, wanted_by}
-use Rattle.step_model.specs.Streams.{Wanted, wanted_blocks, wanted_used}
-use Rattle.data_plan.specs.declared.fault.DataFault.{DataFault}
-use Rattle.data_plan.specs.declared.fault.DataFault.TheVariants.{Memory}
-use Rattle.data_plan.specs.Faults.{IsShortOf, HasRow}
-use Rattle.data_plan.specs.Changes.{BeginsAtZero}
-use Rattle.data_plan.proofs.Cases.{takes_none}
+use Rattle.made_data.specs.step_model.Placing.{Growth, more_of, taken_runs, wanted_by}
+use Rattle.made_data.specs.step_model.Streams.{Wanted, wanted_blocks, wanted_used}
+use Rattle.made_data.specs.data_plan.declared.fault.DataFault.{DataFault}
+use Rattle.made_data.specs.data_plan.declared.fault.DataFault.TheVariants.{Memory}
+use Rattle.made_data.specs.data_plan.Faults.{IsShortOf, HasRow}
+use Rattle.made_data.specs.data_plan.Changes.{BeginsAtZero}
+use Rattle.made_data.proofs.data_plan.Cases.{takes_none}
 use Rattle.directory_growth.specs.declared.change.IndexChange.{IndexChange}
 use Rattle.directory_growth.specs.Growing.{blocks_in, bits_in, HasIndex, GrowsLittle, growths_of, used_with, row_of, BlocksCome, BitsCome, IsIndexChange, IndexAfter}
 use Rattle.made_index.specs.Made.{has_stream, HasNoStreams, indexed_record}

@@ -9,11 +9,11 @@ use Rattle.state_model.specs.Streams.{attributes_of}
 use Rattle.space_model.specs.Choosing.{with_runs}
 use Rattle.plan_space.specs.Choices.{TakesFirst}
 use Rattle.record_streams.specs.Fitting.{FitsButRoom}
-use Rattle.step_model.specs.Placing.{Growth, more_of, taken_runs, wanted_by}
-use Rattle.step_model.specs.Streams.{wanted_blocks, wanted_used}
-use Rattle.data_plan.specs.declared.fault.DataFault.{DataFault}
-use Rattle.data_plan.specs.Faults.{IsShortOf, HasRow}
-use Rattle.data_plan.specs.Changes.{BeginsAtZero}
+use Rattle.made_data.specs.step_model.Placing.{Growth, more_of, taken_runs, wanted_by}
+use Rattle.made_data.specs.step_model.Streams.{wanted_blocks, wanted_used}
+use Rattle.made_data.specs.data_plan.declared.fault.DataFault.{DataFault}
+use Rattle.made_data.specs.data_plan.Faults.{IsShortOf, HasRow}
+use Rattle.made_data.specs.data_plan.Changes.{BeginsAtZero}
 use Rattle.directory_growth.specs.declared.change.IndexChange.{IndexChange}
 use Rattle.directory_growth.specs.Growing.{HasIndex, bits_in, blocks_growth, growths_of, used_with, row_of, BlocksCome, BitsCome}
 use Rattle.made_index.specs.Made.{has_stream, HasNoStreams, indexed_record}

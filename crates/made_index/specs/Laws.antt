@@ -11,8 +11,8 @@ use Rattle.record_streams.specs.Fitting.{FitsButRoom}
 use Rattle.record_values.specs.Values.{valued_record}
 use Rattle.resized_streams.specs.Resizing.{unplaced}
 use Rattle.draft_records.specs.Records.{written_bytes}
-use Rattle.step_model.specs.Streams.{wanted_blocks, wanted_used}
-use Rattle.used_laws.specs.Laws.{HasBytes}
+use Rattle.made_data.specs.step_model.Streams.{wanted_blocks, wanted_used}
+use Rattle.made_data.specs.used_laws.Laws.{HasBytes}
 use Rattle.made_data.specs.Ids.{new_id, with_id, with_attr}
 use Rattle.directory_growth.specs.declared.change.IndexChange.{IndexChange}
 use Rattle.directory_growth.specs.Growing.{blocks_in, bits_in, HasIndex, root_bytes, GrowsLittle, blocks_growth, growths_of, used_with, row_of}

@@ -8,7 +8,7 @@ use Rattle.state_model.specs.Streams.{is_attribute_of}
 use Rattle.record_streams.specs.Placing.{placed_attr}
 use Rattle.resized_streams.specs.Resizing.{unplaced}
 use Rattle.draft_records.specs.Records.{written_record}
-use Rattle.step_model.specs.Used.{new_attr}
+use Rattle.made_data.specs.step_model.Used.{new_attr}
 use Rattle.made_data.specs.Ids.{with_attr}
 
 -- some attribute is of this stream of its index

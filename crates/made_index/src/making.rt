@@ -2,7 +2,7 @@
 ghost use Rattle.std.specs.Prelude.{◌≡◌, ◌<◌, ◌≤◌, ◌^◌, IfOk, length};
 ghost use Rattle.record_model.specs.Constants.{index_allocation};
 ghost use Rattle.resized_streams.specs.Resizing.{unplaced};
-ghost use Rattle.step_model.specs.Used.{new_attr};
+ghost use Rattle.made_data.specs.step_model.Used.{new_attr};
 ghost use Rattle.record_model.specs.Constants.{names_index};
 ghost use Rattle.made_index.specs.Made.{has_stream, empty_blocks, empty_bits, with_empty_index, indexed_record};
 

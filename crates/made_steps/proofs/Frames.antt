@@ -23,7 +23,7 @@ use Rattle.plan_bodies.specs.Bodies.{body_in}
 use Rattle.plan_draft.specs.declared.touched.Touched.{Touched}
 use Rattle.plan_draft.specs.Touching.{bodies_of}
 use Rattle.draft_records.specs.Records.{record_block, is_past, written_record, touch_if, touch_record}
-use Rattle.made_files.proofs.Nodes.{after_touch}
+use Rattle.made_trees.proofs.made_files.Nodes.{after_touch}
 
 pub no_mirror : (c : Content) (per : ℕ) (table mirror : Extents) (n : ℕ) (bytes : List ℕ) (old : List Touched) → 4 ≤ n → touch_record c per table mirror n bytes old ≡ touch_if c (record_block per table n) (is_past table n) bytes old
 no_mirror c per table mirror n bytes old high =

@@ -44,27 +44,27 @@ use Rattle.plan_bodies.proofs.Putting.{sized_with}
 use Rattle.plan_draft.specs.declared.touched.Touched.{Touched}
 use Rattle.plan_draft.specs.Touching.{bodies_of}
 use Rattle.plan_draft.specs.Drafts.{drafted}
-use Rattle.plan_model.specs.Attributes.{RewritesValues}
-use Rattle.plan_model.specs.Informed.{is_info, with_record}
-use Rattle.plan_model.proofs.Drafting.{per_is}
-use Rattle.plan_model.proofs.Making.{leads_to_made}
-use Rattle.plan_model.proofs.Rewriting.{same_root, same_stream}
+use Rattle.made_trees.specs.plan_model.Attributes.{RewritesValues}
+use Rattle.made_trees.specs.plan_model.Informed.{is_info, with_record}
+use Rattle.made_trees.proofs.plan_model.Drafting.{per_is}
+use Rattle.made_trees.proofs.plan_model.Making.{leads_to_made}
+use Rattle.made_trees.proofs.plan_model.Rewriting.{same_root, same_stream}
 use Rattle.draft_bits.proofs.BitEffects.{drafted_same}
 use Rattle.draft_records.specs.Records.{record_block, is_past, written_record, touch_if, touch_record}
 use Rattle.record_streams.proofs.Streams.{attribute_kind}
-use Rattle.record_times.specs.Times.{timed_record}
-use Rattle.record_times.specs.Laws.{TimesAreSet}
-use Rattle.plan_values.proofs.Valued.{values_written}
-use Rattle.step_model.specs.Plans.{Plan, made_plan, spread_comes, spread_used, content_rows, full_row, new_file_attrs, grows_table, table_in, table_change, used_in, used_if, no_plan, IsMadePlan, IsPlan}
-use Rattle.step_model.specs.Placing.{Growth}
-use Rattle.step_model.specs.Spreads.{IsSpread, IsKeyOf, Flat}
-use Rattle.step_model.specs.Steps.{HasIndex, Step}
-use Rattle.step_model.specs.Contents.{IsLeft}
-use Rattle.step_model.specs.Used.{most_used}
-use Rattle.step_model.proofs.NeverFull.{never_full}
-use Rattle.step_model.proofs.Planning.{plans_placed}
-use Rattle.change_steps.proofs.Planning.{without_journal, at_node}
-use Rattle.made_files.proofs.Roots.{OneRoot, one_root, rooted_value}
+use Rattle.made_trees.specs.record_times.Times.{timed_record}
+use Rattle.made_trees.specs.record_times.Laws.{TimesAreSet}
+use Rattle.made_trees.proofs.plan_values.Valued.{values_written}
+use Rattle.made_trees.specs.step_model.Plans.{Plan, made_plan, spread_comes, spread_used, content_rows, full_row, new_file_attrs, grows_table, table_in, table_change, used_in, used_if, no_plan, IsMadePlan, IsPlan}
+use Rattle.made_trees.specs.step_model.Placing.{Growth}
+use Rattle.made_trees.specs.step_model.Spreads.{IsSpread, IsKeyOf, Flat}
+use Rattle.made_trees.specs.step_model.Steps.{HasIndex, Step}
+use Rattle.made_trees.specs.step_model.Contents.{IsLeft}
+use Rattle.made_trees.specs.step_model.Used.{most_used}
+use Rattle.made_trees.proofs.step_model.NeverFull.{never_full}
+use Rattle.made_trees.proofs.step_model.Planning.{plans_placed}
+use Rattle.made_trees.proofs.change_steps.Planning.{without_journal, at_node}
+use Rattle.made_trees.proofs.made_files.Roots.{OneRoot, one_root, rooted_value}
 use Rattle.made_trees.specs.Left.{StaysGrown}
 use Rattle.plan_owners.proofs.Standing.{streams_at}
 use Rattle.volume_model.specs.Sizes.{keeps_streams}
@@ -72,16 +72,16 @@ use Rattle.plan_bodies.specs.Bodies.{body_in}
 use Rattle.tree_model.specs.Walks.{reached_directory}
 use Rattle.upcase_order.specs.Tables.{upcase_of}
 use Rattle.volume_model.specs.Volumes.{table_or_standard}
-use Rattle.step_model.proofs.Spreading.{plans_spread}
-use Rattle.change_steps.specs.Found.{IsPlaceFound, FoundIsThere}
-use Rattle.change_steps.specs.Makings.{IsMade, MakingsAreSteps}
-use Rattle.new_files.specs.Laws.{NewFileReads}
-use Rattle.file_puts.specs.declared.streams.VolumeStreams.{VolumeStreams}
-use Rattle.written_values.proofs.Joining.{nothing_kept}
-use Rattle.written_values.proofs.Sparing.{elsewhere}
-use Rattle.file_makes.specs.declared.newfile.NewFile.{NewFile}
-use Rattle.file_makes.specs.Making.{made_record}
-use Rattle.made_files.specs.Made.{made_link, made_key, rooted_directory, IsMadeEdit}
+use Rattle.made_trees.proofs.step_model.Spreading.{plans_spread}
+use Rattle.made_trees.specs.change_steps.Found.{IsPlaceFound, FoundIsThere}
+use Rattle.made_trees.specs.change_steps.Makings.{IsMade, MakingsAreSteps}
+use Rattle.made_trees.specs.new_files.Laws.{NewFileReads}
+use Rattle.made_trees.specs.file_puts.declared.streams.VolumeStreams.{VolumeStreams}
+use Rattle.made_trees.proofs.written_values.Joining.{nothing_kept}
+use Rattle.made_trees.proofs.written_values.Sparing.{elsewhere}
+use Rattle.made_trees.specs.file_makes.declared.newfile.NewFile.{NewFile}
+use Rattle.made_trees.specs.file_makes.Making.{made_record}
+use Rattle.made_trees.specs.made_files.Made.{made_link, made_key, rooted_directory, IsMadeEdit}
 use Rattle.made_trees.specs.Created.{timed_directory, timed_volume, made_volume}
 use Rattle.made_trees.proofs.Going as going
 use Rattle.made_trees.proofs.Leaving as leaving

@@ -18,13 +18,13 @@ use Rattle.tree_model.specs.declared.reply.Reply.TheVariants.{Created}
 use Rattle.change_lookup.specs.declared.found.Found.TheVariants.{Place}
 use Rattle.plan_draft.specs.declared.touched.Touched.{Touched}
 use Rattle.plan_draft.specs.Drafts.{drafted}
-use Rattle.step_model.specs.Used.{most_used}
-use Rattle.step_model.specs.Plans.{spread_comes, spread_used}
-use Rattle.step_model.specs.Steps.{Step}
-use Rattle.change_steps.specs.Found.{HasChange, Finds}
-use Rattle.file_puts.specs.declared.streams.VolumeStreams.{VolumeStreams}
-use Rattle.file_makes.specs.declared.newfile.NewFile.{NewFile}
-use Rattle.made_files.specs.Made.{made_key}
+use Rattle.made_trees.specs.step_model.Used.{most_used}
+use Rattle.made_trees.specs.step_model.Plans.{spread_comes, spread_used}
+use Rattle.made_trees.specs.step_model.Steps.{Step}
+use Rattle.made_trees.specs.change_steps.Found.{HasChange, Finds}
+use Rattle.made_trees.specs.file_puts.declared.streams.VolumeStreams.{VolumeStreams}
+use Rattle.made_trees.specs.file_makes.declared.newfile.NewFile.{NewFile}
+use Rattle.made_trees.specs.made_files.Made.{made_key}
 use Rattle.made_trees.specs.Created.{MakesFileBy}
 use Rattle.made_trees.specs.Left.{StaysGrown}
 

@@ -1,9 +1,7 @@
 //! The laws of these definitions.
 ghost use Rattle.made_steps.specs.Steps.{MadeFilesAreSteps};
 
-use change_steps::{found_is_there, makings_are_steps};
-use new_files::new_file_reads;
-use record_times::times_are_set;
+use made_trees::{found_is_there, makings_are_steps, new_file_reads, times_are_set};
 
 /// Law: where an operation was found to make a file, and a draft has put it without a level or a
 /// cluster more for the directory's index, its content has taken the step of the operation.

@@ -13,16 +13,16 @@ use Rattle.file_tree.specs.declared.link.Link.{Link}
 use Rattle.file_tree.specs.Trees.{node_at as node_by_number}
 use Rattle.file_tree.specs.Walks.{first_user_record}
 use Rattle.index_model.specs.Trees.{Tree}
-use Rattle.index_change.specs.declared.nodes_plan.NodesPlan.{NodesPlan}
-use Rattle.index_change.specs.declared.plan.DirPlan.{DirPlan}
+use Rattle.made_files.specs.index_change.declared.nodes_plan.NodesPlan.{NodesPlan}
+use Rattle.made_files.specs.index_change.declared.plan.DirPlan.{DirPlan}
 use Rattle.state_model.specs.declared.geometry.Geometry.{Geometry}
 use Rattle.state_model.specs.declared.stream.Extents.{Extents}
 use Rattle.state_model.specs.Files.{info_of}
 use Rattle.state_model.specs.Files.{file_links, links_at}
 use Rattle.state_model.specs.Trees.{is_nameless, is_in_system}
 use Rattle.tree_laws.proofs.Ascending.{in_system_kept}
-use Rattle.plan_model.proofs.Rewriting.{same_links}
-use Rattle.plan_changes.proofs.Going.{files_going}
+use Rattle.written_values.proofs.plan_model.Rewriting.{same_links}
+use Rattle.written_values.proofs.plan_changes.Going.{files_going}
 use Rattle.written_values.proofs.Sparing.{elsewhere}
 use Rattle.volume_model.specs.Nodes.{some_node, node_by, node_at, spare_at}
 use Rattle.volume_model.specs.Volumes.{Volume, bytes_or, count_of, file_in, files_by_number, record_bits}
@@ -38,24 +38,24 @@ use Rattle.plan_bodies.proofs.Putting.{sized_with}
 use Rattle.plan_draft.specs.declared.touched.Touched.{Touched}
 use Rattle.plan_draft.specs.Touching.{bodies_of}
 use Rattle.plan_draft.specs.Drafts.{drafted}
-use Rattle.plan_model.specs.Attributes.{RewritesValues}
-use Rattle.plan_model.specs.Informed.{is_info, with_info, InfoDiffers}
-use Rattle.plan_model.specs.Made.{HasMade}
-use Rattle.plan_model.proofs.Drafting.{per_is}
-use Rattle.plan_model.proofs.Making.{goes_on_made, has_made}
-use Rattle.plan_model.proofs.Stepping.{tree_nodes}
-use Rattle.record_times.specs.Times.{timed_record}
-use Rattle.record_times.specs.Laws.{TimesAreSet}
-use Rattle.plan_values.specs.Values.{WritesValues}
-use Rattle.plan_values.proofs.Valued.{values_written}
-use Rattle.plan_edits.specs.Moves.{EditsDraft}
-use Rattle.plan_edits.specs.Records.{PutsRecordOf}
-use Rattle.plan_informed.proofs.Informed.{values_edit}
-use Rattle.new_files.specs.Laws.{ReadsNewFile, NewFileReads}
-use Rattle.file_puts.specs.declared.streams.VolumeStreams.{VolumeStreams}
+use Rattle.written_values.specs.plan_model.Attributes.{RewritesValues}
+use Rattle.written_values.specs.plan_model.Informed.{is_info, with_info, InfoDiffers}
+use Rattle.written_values.specs.plan_model.Made.{HasMade}
+use Rattle.written_values.proofs.plan_model.Drafting.{per_is}
+use Rattle.written_values.proofs.plan_model.Making.{goes_on_made, has_made}
+use Rattle.written_values.proofs.plan_model.Stepping.{tree_nodes}
+use Rattle.made_files.specs.record_times.Times.{timed_record}
+use Rattle.made_files.specs.record_times.Laws.{TimesAreSet}
+use Rattle.made_files.specs.plan_values.Values.{WritesValues}
+use Rattle.made_files.proofs.plan_values.Valued.{values_written}
+use Rattle.written_values.specs.plan_edits.Moves.{EditsDraft}
+use Rattle.written_values.specs.plan_edits.Records.{PutsRecordOf}
+use Rattle.made_files.proofs.plan_informed.Informed.{values_edit}
+use Rattle.made_files.specs.new_files.Laws.{ReadsNewFile, NewFileReads}
+use Rattle.written_values.specs.file_puts.declared.streams.VolumeStreams.{VolumeStreams}
 use Rattle.written_values.proofs.Joining.{nothing_put, nothing_kept, Reaches, begins, goes_behind, puts_record}
-use Rattle.file_makes.specs.declared.newfile.NewFile.{NewFile}
-use Rattle.file_makes.specs.Making.{made_lsn, made_record}
+use Rattle.made_files.specs.file_makes.declared.newfile.NewFile.{NewFile}
+use Rattle.made_files.specs.file_makes.Making.{made_lsn, made_record}
 use Rattle.made_files.specs.Made.{made_link, rooted_directory, IsMadeEdit}
 use Rattle.made_files.proofs.Making.{file_made}
 use Rattle.made_trees.specs.Created.{timed_directory, timed_volume, made_volume, MakesFileBy, HasMadeFile, MadeFilesAreTrees}

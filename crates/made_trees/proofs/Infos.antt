@@ -9,18 +9,18 @@ use Rattle.record_model.specs.Constants.{standard_information, file_name, index_
 use Rattle.record_model.specs.Records.{Record}
 use Rattle.record_writer.specs.Normal.{normal_form, normal}
 use Rattle.state_model.specs.Files.{form_info, attr_info, info_of, reference, form_link, attr_link, record_links}
-use Rattle.plan_model.specs.Informed.{is_info}
+use Rattle.written_values.specs.plan_model.Informed.{is_info}
 use Rattle.file_tree.specs.declared.link.Link.{Link}
 use Rattle.host_base.specs.declared.file_ref.FileRef.{FileRef}
 use Rattle.std.specs.List.{cons_option}
 use Rattle.std.specs.List.{filter_map}
 use Rattle.state_model.specs.Streams.{is_attribute_of, attributes_of}
-use Rattle.record_streams.specs.Placing.{with_stream}
-use Rattle.record_streams.proofs.Streams.{attribute_kind, first_passes, others_with}
-use Rattle.record_values.specs.Values.{valued_attr, valued_first}
-use Rattle.draft_records.specs.Records.{written_record}
-use Rattle.plan_growth.proofs.Placed.{head_of, find_by_filter}
-use Rattle.file_makes.specs.Making.{rooted_record}
+use Rattle.written_values.specs.record_streams.Placing.{with_stream}
+use Rattle.written_values.proofs.record_streams.Streams.{attribute_kind, first_passes, others_with}
+use Rattle.written_values.specs.record_values.Values.{valued_attr, valued_first}
+use Rattle.written_values.specs.draft_records.Records.{written_record}
+use Rattle.made_files.proofs.plan_growth.Placed.{head_of, find_by_filter}
+use Rattle.made_files.specs.file_makes.Making.{rooted_record}
 
 abbrev info : Attr → Bool
 info a = eqb a.head.kind standard_information

@@ -18,7 +18,7 @@ use Rattle.record_model.specs.Records.{Record}
 use Rattle.bit_set.specs.Bits.{bit}
 use Rattle.file_tree.specs.declared.node.Node.{Node}
 use Rattle.index_model.specs.Trees.{Tree}
-use Rattle.index_change.specs.declared.nodes_plan.NodesPlan.{NodesPlan}
+use Rattle.made_files.specs.index_change.declared.nodes_plan.NodesPlan.{NodesPlan}
 use Rattle.state_model.specs.declared.geometry.Geometry.{Geometry}
 use Rattle.state_model.specs.declared.stream.Extents.{Extents}
 use Rattle.state_model.specs.Streams.{is_attribute_of, attributes_of, attribute_runs, form_stream, joined, stream_of, block_at}
@@ -39,36 +39,36 @@ use Rattle.plan_owners.proofs.Standing.{as_file, some_file, file_parts}
 use Rattle.plan_bodies.specs.Bodies.{NewBody, whole_write}
 use Rattle.plan_draft.specs.declared.touched.Touched.{Touched}
 use Rattle.plan_draft.specs.Drafts.{drafted}
-use Rattle.plan_model.specs.Attributes.{RewritesValues}
-use Rattle.plan_model.specs.Drafts.{FollowsOwners}
-use Rattle.plan_model.specs.Edits.{IsOwnedIn}
-use Rattle.plan_model.specs.Informed.{is_info, with_record}
-use Rattle.plan_model.proofs.OneRecord.{own_record, small_base}
-use Rattle.plan_edits.specs.Moves.{EditsDraft}
-use Rattle.plan_values.specs.Values.{WritesValues}
+use Rattle.written_values.specs.plan_model.Attributes.{RewritesValues}
+use Rattle.written_values.specs.plan_model.Drafts.{FollowsOwners}
+use Rattle.written_values.specs.plan_model.Edits.{IsOwnedIn}
+use Rattle.written_values.specs.plan_model.Informed.{is_info, with_record}
+use Rattle.written_values.proofs.plan_model.OneRecord.{own_record, small_base}
+use Rattle.written_values.specs.plan_edits.Moves.{EditsDraft}
+use Rattle.made_files.specs.plan_values.Values.{WritesValues}
 use Rattle.state_model.specs.Files.{file_at, is_base_record}
 use Rattle.state_model.specs.Loads.{table_in}
 use Rattle.written_values.proofs.Joining.{Reaches}
-use Rattle.plan_model.specs.Made.{is_info_or_root, made_streams, made_edits}
-use Rattle.plan_model.proofs.Informing.{slot_in_use, marked_in_use}
-use Rattle.plan_model.proofs.Rewriting.{same_runs, same_stream}
-use Rattle.record_streams.proofs.Kept.{all_of_stream}
-use Rattle.record_streams.proofs.Streams.{attribute_kind}
-use Rattle.record_times.specs.Times.{timed_record}
-use Rattle.record_times.specs.Laws.{TimesAreSet}
-use Rattle.plan_growth.specs.Streams.{marks_streams}
-use Rattle.plan_changes.specs.Going.{StandsAs}
-use Rattle.plan_changes.proofs.Going.{files_going}
-use Rattle.new_files.specs.Laws.{NewFileReads}
-use Rattle.step_model.specs.Placing.{Growth, AllPlaced}
-use Rattle.step_model.specs.Streams.{blocks_key, used_key}
-use Rattle.step_model.specs.Used.{is_in_record}
-use Rattle.step_model.specs.Contents.{same_key, is_touched, touched_streams, HasGrown, MayDiffer, IsLeft}
-use Rattle.step_model.proofs.Leaving.{contents_left}
-use Rattle.file_puts.specs.declared.streams.VolumeStreams.{VolumeStreams}
+use Rattle.written_values.specs.plan_model.Made.{is_info_or_root, made_streams, made_edits}
+use Rattle.written_values.proofs.plan_model.Informing.{slot_in_use, marked_in_use}
+use Rattle.written_values.proofs.plan_model.Rewriting.{same_runs, same_stream}
+use Rattle.written_values.proofs.record_streams.Kept.{all_of_stream}
+use Rattle.written_values.proofs.record_streams.Streams.{attribute_kind}
+use Rattle.made_files.specs.record_times.Times.{timed_record}
+use Rattle.made_files.specs.record_times.Laws.{TimesAreSet}
+use Rattle.made_files.specs.plan_growth.Streams.{marks_streams}
+use Rattle.written_values.specs.plan_changes.Going.{StandsAs}
+use Rattle.written_values.proofs.plan_changes.Going.{files_going}
+use Rattle.made_files.specs.new_files.Laws.{NewFileReads}
+use Rattle.written_values.specs.step_model.Placing.{Growth, AllPlaced}
+use Rattle.written_values.specs.step_model.Streams.{blocks_key, used_key}
+use Rattle.written_values.specs.step_model.Used.{is_in_record}
+use Rattle.written_values.specs.step_model.Contents.{same_key, is_touched, touched_streams, HasGrown, MayDiffer, IsLeft}
+use Rattle.made_files.proofs.step_model.Leaving.{contents_left}
+use Rattle.written_values.specs.file_puts.declared.streams.VolumeStreams.{VolumeStreams}
 use Rattle.written_values.proofs.Sparing.{elsewhere}
-use Rattle.file_makes.specs.declared.newfile.NewFile.{NewFile}
-use Rattle.file_makes.specs.Making.{made_record}
+use Rattle.made_files.specs.file_makes.declared.newfile.NewFile.{NewFile}
+use Rattle.made_files.specs.file_makes.Making.{made_record}
 use Rattle.made_files.specs.Made.{rooted_directory, IsMadeEdit}
 use Rattle.made_trees.specs.Created.{timed_directory, timed_volume, made_volume, MakesFileBy}
 use Rattle.made_trees.specs.Left.{StaysGrown, MadeFilesAreLeft}

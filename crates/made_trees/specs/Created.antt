@@ -7,8 +7,8 @@ use Rattle.record_model.specs.Records.{Record}
 use Rattle.file_tree.specs.declared.node.Node.{Node}
 use Rattle.file_tree.specs.Trees.{node_at as node_by_number}
 use Rattle.index_model.specs.Trees.{Tree}
-use Rattle.index_change.specs.declared.nodes_plan.NodesPlan.{NodesPlan}
-use Rattle.index_change.specs.declared.plan.DirPlan.{DirPlan}
+use Rattle.made_files.specs.index_change.declared.nodes_plan.NodesPlan.{NodesPlan}
+use Rattle.made_files.specs.index_change.declared.plan.DirPlan.{DirPlan}
 use Rattle.state_model.specs.declared.geometry.Geometry.{Geometry}
 use Rattle.state_model.specs.declared.stream.Extents.{Extents}
 use Rattle.state_model.specs.Files.{has_type}
@@ -22,19 +22,19 @@ use Rattle.plan_draft.specs.declared.touched.Touched.{Touched}
 use Rattle.plan_draft.specs.Touching.{bodies_of}
 use Rattle.plan_draft.specs.Drafts.{drafted}
 use Rattle.plan_draft.specs.Same.{PutSame}
-use Rattle.plan_model.specs.Drafts.{DraftIn}
-use Rattle.plan_model.specs.Edits.{edited}
-use Rattle.plan_model.specs.Informed.{with_record}
-use Rattle.plan_model.specs.Made.{made_edits}
-use Rattle.record_streams.specs.Fitting.{FitsButRoom}
-use Rattle.record_times.specs.Times.{timed_record}
-use Rattle.draft_records.specs.Records.{written_record}
-use Rattle.plan_values.specs.Values.{IsOwnFile}
-use Rattle.file_puts.specs.declared.streams.VolumeStreams.{VolumeStreams}
-use Rattle.file_puts.specs.Puts.{PutsTimes}
-use Rattle.file_puts.specs.Written.{AreStreamsOf}
-use Rattle.file_makes.specs.declared.newfile.NewFile.{NewFile}
-use Rattle.file_makes.specs.Making.{made_record}
+use Rattle.written_values.specs.plan_model.Drafts.{DraftIn}
+use Rattle.written_values.specs.plan_model.Edits.{edited}
+use Rattle.written_values.specs.plan_model.Informed.{with_record}
+use Rattle.written_values.specs.plan_model.Made.{made_edits}
+use Rattle.written_values.specs.record_streams.Fitting.{FitsButRoom}
+use Rattle.made_files.specs.record_times.Times.{timed_record}
+use Rattle.written_values.specs.draft_records.Records.{written_record}
+use Rattle.made_files.specs.plan_values.Values.{IsOwnFile}
+use Rattle.written_values.specs.file_puts.declared.streams.VolumeStreams.{VolumeStreams}
+use Rattle.written_values.specs.file_puts.Puts.{PutsTimes}
+use Rattle.written_values.specs.file_puts.Written.{AreStreamsOf}
+use Rattle.made_files.specs.file_makes.declared.newfile.NewFile.{NewFile}
+use Rattle.made_files.specs.file_makes.Making.{made_record}
 use Rattle.made_files.specs.Made.{rooted_directory, MakesOfVolume, IsMadeEdit}
 
 -- the directory's record with its times, as it is written, and the volume with it

@@ -5,17 +5,17 @@ use Rattle.disk_model.specs.Content.{Content}
 use Rattle.record_model.specs.Records.{Record}
 use Rattle.file_tree.specs.declared.node.Node.{Node}
 use Rattle.index_model.specs.Trees.{Tree}
-use Rattle.index_change.specs.declared.nodes_plan.NodesPlan.{NodesPlan}
+use Rattle.made_files.specs.index_change.declared.nodes_plan.NodesPlan.{NodesPlan}
 use Rattle.state_model.specs.declared.geometry.Geometry.{Geometry}
 use Rattle.state_model.specs.declared.stream.Extents.{Extents}
 use Rattle.volume_model.specs.Volumes.{Volume, cluster_bits}
 use Rattle.plan_draft.specs.declared.touched.Touched.{Touched}
 use Rattle.plan_draft.specs.Drafts.{drafted}
-use Rattle.step_model.specs.Placing.{Growth, AllPlaced}
-use Rattle.step_model.specs.Streams.{blocks_key, used_key}
-use Rattle.step_model.specs.Contents.{HasGrown, IsLeft}
-use Rattle.file_puts.specs.declared.streams.VolumeStreams.{VolumeStreams}
-use Rattle.file_makes.specs.declared.newfile.NewFile.{NewFile}
+use Rattle.written_values.specs.step_model.Placing.{Growth, AllPlaced}
+use Rattle.written_values.specs.step_model.Streams.{blocks_key, used_key}
+use Rattle.written_values.specs.step_model.Contents.{HasGrown, IsLeft}
+use Rattle.written_values.specs.file_puts.declared.streams.VolumeStreams.{VolumeStreams}
+use Rattle.made_files.specs.file_makes.declared.newfile.NewFile.{NewFile}
 use Rattle.made_trees.specs.Created.{made_volume, MakesFileBy}
 
 -- a stream of a directory's index that comes to have the runs that it has

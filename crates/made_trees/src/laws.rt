@@ -2,8 +2,7 @@
 ghost use Rattle.made_trees.specs.Created.{MadeFilesAreTrees};
 ghost use Rattle.made_trees.specs.Left.{MadeFilesAreLeft};
 
-use new_files::new_file_reads;
-use record_times::times_are_set;
+use made_files::{new_file_reads, times_are_set};
 
 /// Law: where a draft has put the times of a directory and behind them a new file, it stands for the
 /// next state, to which its bodies lead as those of a plan do, and the tree has the file.

@@ -7,3 +7,5 @@
 mod laws;
 
 pub use laws::{made_files_are_left, made_files_are_trees};
+pub use made_files::{new_file_reads, times_are_set};
+pub use written_values::{found_is_there, makings_are_steps};

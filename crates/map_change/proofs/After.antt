@@ -6,12 +6,12 @@ use Rattle.std.proofs.lemmas.List.{get_or-set_same, get_or-set_other, get_or_pas
 use Rattle.std.proofs.Math.ListN.{length-set}
 use Rattle.disk_model.specs.Content.{Content}
 use Rattle.disk_model.specs.declared.block.Change.{Change}
-use Rattle.record_model.specs.Records.{Record}
-use Rattle.state_model.specs.declared.stream.Extents.{Extents}
-use Rattle.state_model.specs.declared.stream.Stream.{Stream}
-use Rattle.state_model.specs.Files.{file_at, only_base}
-use Rattle.state_model.specs.Loads.{record_count, table_in}
-use Rattle.volume_model.specs.Volumes.{file_in, count_of}
+use Rattle.volume_map.specs.record_model.Records.{Record}
+use Rattle.volume_map.specs.state_model.declared.stream.Extents.{Extents}
+use Rattle.volume_map.specs.state_model.declared.stream.Stream.{Stream}
+use Rattle.volume_map.specs.state_model.Files.{file_at, only_base}
+use Rattle.volume_map.specs.state_model.Loads.{record_count, table_in}
+use Rattle.volume_map.specs.volume_model.Volumes.{file_in, count_of}
 use Rattle.volume_map.specs.declared.fault.MapFault.{MapFault}
 use Rattle.map_change.specs.declared.change.RecordChange.{RecordChange}
 use Rattle.map_change.specs.declared.change.BitsChange.{BitsChange}

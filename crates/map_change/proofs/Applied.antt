@@ -6,9 +6,9 @@ use Rattle.std.proofs.lemmas.Bool.{or_cases, eqb-true}
 use Rattle.std.proofs.lemmas.List.{take_more}
 use Rattle.host_base.proofs.Known.{both}
 use Rattle.disk_model.specs.Content.{Content}
-use Rattle.record_model.specs.Records.{Record}
-use Rattle.state_model.specs.declared.stream.Extents.{Extents}
-use Rattle.state_model.specs.Loads.{table_slot}
+use Rattle.volume_map.specs.record_model.Records.{Record}
+use Rattle.volume_map.specs.state_model.declared.stream.Extents.{Extents}
+use Rattle.volume_map.specs.state_model.Loads.{table_slot}
 use Rattle.stream_laws.specs.Rewrites.{StandsAlone, with_files}
 use Rattle.volume_map.specs.declared.head.Head.{Head}
 use Rattle.volume_map.specs.Heads.{table_head}

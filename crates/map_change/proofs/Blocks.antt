@@ -9,10 +9,10 @@ use Rattle.disk_model.specs.declared.block.BlockKind.{BlockKind}
 use Rattle.disk_model.specs.declared.block.BlockKind.TheVariants.{Plain, FileRec, Index}
 use Rattle.disk_model.specs.Sectors.{sectors, same_block, same_kind}
 use Rattle.disk_model.proofs.Frames.{same_block-is}
-use Rattle.record_model.specs.declared.runs.Run.{Run}
-use Rattle.state_model.specs.Streams.{block_at}
-use Rattle.volume_model.specs.Owners.{covers}
-use Rattle.block_view.specs.Changes.{writes_of}
+use Rattle.volume_map.specs.record_model.declared.runs.Run.{Run}
+use Rattle.volume_map.specs.state_model.Streams.{block_at}
+use Rattle.volume_map.specs.volume_model.Owners.{covers}
+use Rattle.volume_map.specs.block_view.Changes.{writes_of}
 use Rattle.stream_laws.specs.Changes.{AreElsewhere}
 use Rattle.stream_laws.proofs.Changing.{has_sectors}
 use Rattle.stream_laws.proofs.Placing.{Lies, lies, lies_straight, lies_in_cluster}

@@ -14,12 +14,12 @@ use Rattle.disk_model.specs.declared.block.Change.{Change}
 use Rattle.disk_model.specs.declared.block.BlockKind.TheVariants.{Plain}
 use Rattle.disk_model.specs.Bytes.{zeros}
 use Rattle.disk_model.specs.Content.{Content, HasSizes}
-use Rattle.state_model.specs.declared.stream.Extents.{Extents}
-use Rattle.state_model.specs.declared.stream.Stream.{Stream}
-use Rattle.state_model.specs.declared.stream.Stream.TheVariants.{Held, Placed}
-use Rattle.state_model.specs.Streams.{block_at, sector_bytes, byte_at, extent_bytes, stream_bytes}
-use Rattle.volume_model.specs.Volumes.{bytes_or}
-use Rattle.block_view.specs.Changes.{writes_of, content_after}
+use Rattle.volume_map.specs.state_model.declared.stream.Extents.{Extents}
+use Rattle.volume_map.specs.state_model.declared.stream.Stream.{Stream}
+use Rattle.volume_map.specs.state_model.declared.stream.Stream.TheVariants.{Held, Placed}
+use Rattle.volume_map.specs.state_model.Streams.{block_at, sector_bytes, byte_at, extent_bytes, stream_bytes}
+use Rattle.volume_map.specs.volume_model.Volumes.{bytes_or}
+use Rattle.volume_map.specs.block_view.Changes.{writes_of, content_after}
 use Rattle.stream_laws.specs.Sharing.{runs_in}
 use Rattle.stream_laws.proofs.Framing.{same_map, same_sector}
 use Rattle.stream_laws.proofs.Changing.{length-extent_bytes, byte_of_extents, body_elsewhere}

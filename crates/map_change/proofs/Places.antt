@@ -7,9 +7,9 @@ use Rattle.std.proofs.Math.Nat.{div-lt_iff_lt-mul, div-mul-le_self}
 use Rattle.std.proofs.lemmas.Nat.{le-div}
 use Rattle.std.proofs.lemmas.List.{take_more, append_assoc}
 use Rattle.disk_model.specs.declared.block.BlockKind.TheVariants.{FileRec}
-use Rattle.record_model.specs.declared.runs.Run.{Run}
-use Rattle.state_model.specs.declared.stream.Extents.{Extents}
-use Rattle.state_model.specs.Streams.{holds, lcn_in, block_at}
+use Rattle.volume_map.specs.record_model.declared.runs.Run.{Run}
+use Rattle.volume_map.specs.state_model.declared.stream.Extents.{Extents}
+use Rattle.volume_map.specs.state_model.Streams.{holds, lcn_in, block_at}
 use Rattle.map_change.specs.Touching.{AgreeBelow, NoneBelow, KeepsPlaces}
 
 -- ---- no run

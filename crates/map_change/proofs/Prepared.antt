@@ -9,15 +9,15 @@ use Rattle.host_base.specs.Answers.{◌>>=◌, ExplainsOrFails, GivesOrFails}
 use Rattle.host_base.proofs.Known.{both, one, always}
 use Rattle.disk_model.specs.declared.block.Change.{Change}
 use Rattle.disk_model.specs.Content.{Content, HasSizes}
-use Rattle.record_model.specs.Records.{Record}
-use Rattle.state_model.specs.declared.geometry.Geometry.{Geometry}
-use Rattle.state_model.specs.declared.geometry.MapRefusal.{MapRefusal}
-use Rattle.state_model.specs.declared.stream.Extents.{Extents}
-use Rattle.state_model.specs.Loads.{table_slot, record_count}
+use Rattle.volume_map.specs.record_model.Records.{Record}
+use Rattle.volume_map.specs.state_model.declared.geometry.Geometry.{Geometry}
+use Rattle.volume_map.specs.state_model.declared.geometry.MapRefusal.{MapRefusal}
+use Rattle.volume_map.specs.state_model.declared.stream.Extents.{Extents}
+use Rattle.volume_map.specs.state_model.Loads.{table_slot, record_count}
 use Rattle.bit_set.specs.Words.{byte_bit, bits_of_bytes}
-use Rattle.state_model.specs.declared.stream.Stream.{Stream}
-use Rattle.state_model.specs.Streams.{stream_bytes}
-use Rattle.volume_model.specs.Volumes.{Volume, volume_of, count_of, bytes_or, record_bitmap, cluster_bitmap, record_bits, cluster_bits}
+use Rattle.volume_map.specs.state_model.declared.stream.Stream.{Stream}
+use Rattle.volume_map.specs.state_model.Streams.{stream_bytes}
+use Rattle.volume_map.specs.volume_model.Volumes.{Volume, volume_of, count_of, bytes_or, record_bitmap, cluster_bitmap, record_bits, cluster_bits}
 use Rattle.volume_map.specs.declared.fault.MapFault.{MapFault}
 use Rattle.volume_map.specs.declared.fault.MapFault.TheVariants as faults
 use Rattle.volume_map.specs.declared.head.Head.{Head}
@@ -26,7 +26,7 @@ use Rattle.volume_map.specs.Errors.{map_cause, NeverRefused}
 use Rattle.volume_map.specs.Heads.{heads_of, table_head, no_head}
 use Rattle.volume_map.specs.Maps.{volume_in, IsMapOf}
 use Rattle.volume_map.proofs.Loaded.{never}
-use Rattle.block_view.specs.Changes.{content_after}
+use Rattle.volume_map.specs.block_view.Changes.{content_after}
 use Rattle.stream_laws.specs.Rewrites.{StandsAlone, with_table}
 use Rattle.map_change.specs.declared.live.LiveMap.{LiveMap}
 use Rattle.map_change.specs.declared.change.BitRun.{BitRun}

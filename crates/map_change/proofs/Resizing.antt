@@ -3,7 +3,7 @@ use Rattle.std.proofs.Common.{◌≡◌, ℕ, zero, suc, ◌+◌, ◌-◌, ◌<�
 use Rattle.std.specs.List.{list_all}
 use Rattle.std.proofs.lemmas.Bool.{and_parts}
 use Rattle.std.proofs.lemmas.List.{length-append, length-replicate, append_assoc}
-use Rattle.record_model.specs.Records.{Record}
+use Rattle.volume_map.specs.record_model.Records.{Record}
 use Rattle.map_change.specs.Plain.{is_plain}
 use Rattle.map_change.specs.Applying.{resized}
 

@@ -9,15 +9,15 @@ use Rattle.disk_model.specs.declared.block.Block.{Block}
 use Rattle.disk_model.specs.declared.block.Change.{Change}
 use Rattle.disk_model.specs.declared.block.BlockKind.TheVariants.{FileRec}
 use Rattle.disk_model.specs.Content.{Content, HasSizes}
-use Rattle.record_model.specs.Records.{Record}
-use Rattle.state_model.specs.declared.geometry.Geometry.{Geometry}
-use Rattle.state_model.specs.declared.stream.Extents.{Extents}
-use Rattle.state_model.specs.Streams.{block_at, has_cut_block}
-use Rattle.state_model.specs.Loads.{Free, record_count, slot_at, table_of, table_slot, files_in}
-use Rattle.volume_model.specs.Volumes.{Volume, volume_of, count_of, block_bytes, record_block, record_bytes}
+use Rattle.volume_map.specs.record_model.Records.{Record}
+use Rattle.volume_map.specs.state_model.declared.geometry.Geometry.{Geometry}
+use Rattle.volume_map.specs.state_model.declared.stream.Extents.{Extents}
+use Rattle.volume_map.specs.state_model.Streams.{block_at, has_cut_block}
+use Rattle.volume_map.specs.state_model.Loads.{Free, record_count, slot_at, table_of, table_slot, files_in}
+use Rattle.volume_map.specs.volume_model.Volumes.{Volume, volume_of, count_of, block_bytes, record_block, record_bytes}
 use Rattle.volume_map.specs.declared.head.Head.{Head}
 use Rattle.volume_map.specs.Heads.{head_of, head_at, heads_of, table_head, no_head}
-use Rattle.block_view.specs.Changes.{writes_of, content_after}
+use Rattle.volume_map.specs.block_view.Changes.{writes_of, content_after}
 use Rattle.stream_laws.specs.Changes.{LeavesRecord}
 use Rattle.stream_laws.specs.Rewrites.{StandsAlone, with_table}
 use Rattle.stream_laws.proofs.Changing.{slot_stays, record_bytes_stay}

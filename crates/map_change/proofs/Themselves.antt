@@ -8,17 +8,17 @@ use Rattle.std.proofs.lemmas.List.Folds.{list_any-append}
 use Rattle.host_base.specs.Answers.{◌>>=◌}
 use Rattle.disk_model.specs.Content.{Content}
 use Rattle.disk_model.specs.declared.block.BlockKind.TheVariants.{FileRec}
-use Rattle.record_model.specs.declared.attribute.Attr.{Attr}
-use Rattle.record_model.specs.ListEntries.{ReadEntries}
-use Rattle.record_model.specs.Constants.{attribute_list}
-use Rattle.record_model.specs.Records.{Record}
-use Rattle.state_model.specs.declared.geometry.Geometry.{Geometry}
-use Rattle.state_model.specs.declared.geometry.MapRefusal.{MapRefusal}
-use Rattle.state_model.specs.declared.stream.Extents.{Extents}
-use Rattle.state_model.specs.Files.{Table, file_at, has_type, only_base, is_base_record}
-use Rattle.state_model.specs.Streams.{has_cut_block}
-use Rattle.state_model.specs.Loads.{Slot, Torn, Free, Broken, Used, record_count, table_of, table_slot, used_record, records_of, table_in, list_stream, list_entries_in, entries_of, no_entries, all_attrs, whole_file, joined_file, has_held_list, holds_all, cuts_index, breaks_9, breaks_list, breaks_10, broken_rule, or_rule, rule_at, torn_refusal, rule_refusal, first_some, first_of, unless, files_of, files_in}
-use Rattle.volume_model.specs.Volumes.{Volume, volume_of}
+use Rattle.volume_map.specs.record_model.declared.attribute.Attr.{Attr}
+use Rattle.volume_map.specs.record_model.ListEntries.{ReadEntries}
+use Rattle.volume_map.specs.record_model.Constants.{attribute_list}
+use Rattle.volume_map.specs.record_model.Records.{Record}
+use Rattle.volume_map.specs.state_model.declared.geometry.Geometry.{Geometry}
+use Rattle.volume_map.specs.state_model.declared.geometry.MapRefusal.{MapRefusal}
+use Rattle.volume_map.specs.state_model.declared.stream.Extents.{Extents}
+use Rattle.volume_map.specs.state_model.Files.{Table, file_at, has_type, only_base, is_base_record}
+use Rattle.volume_map.specs.state_model.Streams.{has_cut_block}
+use Rattle.volume_map.specs.state_model.Loads.{Slot, Torn, Free, Broken, Used, record_count, table_of, table_slot, used_record, records_of, table_in, list_stream, list_entries_in, entries_of, no_entries, all_attrs, whole_file, joined_file, has_held_list, holds_all, cuts_index, breaks_9, breaks_list, breaks_10, broken_rule, or_rule, rule_at, torn_refusal, rule_refusal, first_some, first_of, unless, files_of, files_in}
+use Rattle.volume_map.specs.volume_model.Volumes.{Volume, volume_of}
 use Rattle.stream_laws.specs.Volumes.{base_record}
 use Rattle.stream_laws.specs.Rewrites.{StandsAlone}
 use Rattle.stream_laws.proofs.Framing.{same_map}

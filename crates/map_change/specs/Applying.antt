@@ -2,8 +2,8 @@
 use Rattle.std.specs.Prelude.{ℕ, ◌+◌, ◌-◌, ◌≤◌, Bool, ◌&&◌, nat_le, nat_lt, if◌then◌else◌, List, [], ◌∷◌, ◌++◌, length, map, take, replicate, unwrap_or, Option, Some, None, slice_set, vec_capacity, ⊤}
 use Rattle.std.specs.List.{range_with_len}
 use Rattle.bit_set.specs.Bits.{bit}
-use Rattle.state_model.specs.declared.stream.Extents.{Extents}
-use Rattle.state_model.specs.Loads.{record_count}
+use Rattle.volume_map.specs.state_model.declared.stream.Extents.{Extents}
+use Rattle.volume_map.specs.state_model.Loads.{record_count}
 use Rattle.stream_laws.specs.Rewrites.{with_files, with_table}
 use Rattle.volume_map.specs.Heads.{no_head}
 use Rattle.map_change.specs.Parts.{MapParts, live_parts}

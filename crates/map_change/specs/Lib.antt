@@ -1,3 +1,7 @@
+pub use Rattle.volume_map.specs as volume_map
+pub use Rattle.volume_map.specs.file_tree
+pub use Rattle.volume_map.specs.record_model
+pub use Rattle.volume_map.specs.volume_model
 pub mod Plain
 pub mod Parts
 pub mod Touching

@@ -2,9 +2,9 @@
 use Rattle.std.specs.Prelude.{ℕ, Bool, List, Result, Ok}
 use Rattle.host_base.specs.Answers.{◌>>=◌}
 use Rattle.disk_model.specs.Content.{Content}
-use Rattle.state_model.specs.declared.geometry.Geometry.{Geometry}
-use Rattle.state_model.specs.declared.geometry.MapRefusal.{MapRefusal}
-use Rattle.volume_model.specs.Volumes.{Volume, volume_of, record_bits, cluster_bits}
+use Rattle.volume_map.specs.state_model.declared.geometry.Geometry.{Geometry}
+use Rattle.volume_map.specs.state_model.declared.geometry.MapRefusal.{MapRefusal}
+use Rattle.volume_map.specs.volume_model.Volumes.{Volume, volume_of, record_bits, cluster_bits}
 use Rattle.volume_map.specs.declared.head.Head.{Head}
 use Rattle.volume_map.specs.declared.map.VolumeMap.{VolumeMap}
 use Rattle.volume_map.specs.Heads.{heads_of}

@@ -1,8 +1,8 @@
 -- Files without attribute lists.
 use Rattle.std.specs.Prelude.{Bool, true, not, Option, Some, None}
-use Rattle.record_model.specs.Records.{Record}
-use Rattle.record_model.specs.Constants.{attribute_list}
-use Rattle.state_model.specs.Files.{has_type}
+use Rattle.volume_map.specs.record_model.Records.{Record}
+use Rattle.volume_map.specs.record_model.Constants.{attribute_list}
+use Rattle.volume_map.specs.state_model.Files.{has_type}
 
 -- the file, if there is one, has no attribute list
 abbrev pub is_plain : Option Record → Bool

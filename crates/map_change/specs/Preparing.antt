@@ -4,11 +4,11 @@ use Rattle.host_base.specs.Answers.{GivesOrFails}
 use Rattle.disk_model.specs.declared.block.Change.{Change}
 use Rattle.disk_model.specs.declared.block.BlockKind.TheVariants.{FileRec}
 use Rattle.disk_model.specs.Content.{Content, HasSizes}
-use Rattle.block_view.specs.Changes.{content_after}
-use Rattle.state_model.specs.declared.geometry.Geometry.{Geometry}
-use Rattle.state_model.specs.declared.stream.Extents.{Extents}
-use Rattle.state_model.specs.Streams.{has_cut_block}
-use Rattle.state_model.specs.Loads.{table_of, record_count}
+use Rattle.volume_map.specs.block_view.Changes.{content_after}
+use Rattle.volume_map.specs.state_model.declared.geometry.Geometry.{Geometry}
+use Rattle.volume_map.specs.state_model.declared.stream.Extents.{Extents}
+use Rattle.volume_map.specs.state_model.Streams.{has_cut_block}
+use Rattle.volume_map.specs.state_model.Loads.{table_of, record_count}
 use Rattle.volume_map.specs.declared.fault.MapFault.{MapFault}
 use Rattle.volume_map.specs.Errors.{map_cause}
 use Rattle.map_change.specs.Parts.{map_of, live_parts, geometry_in}

@@ -4,14 +4,14 @@ use Rattle.std.specs.List.{list_all, list_any}
 use Rattle.disk_model.specs.Content.{Content}
 use Rattle.disk_model.specs.declared.block.Change.{Change}
 use Rattle.disk_model.specs.declared.block.BlockKind.TheVariants.{Plain, FileRec}
-use Rattle.state_model.specs.declared.geometry.Geometry.{Geometry}
-use Rattle.state_model.specs.declared.stream.Extents.{Extents}
-use Rattle.state_model.specs.Files.{only_base}
-use Rattle.state_model.specs.Streams.{has_cut_block}
-use Rattle.state_model.specs.Loads.{table_of, table_slot, used_record, record_count}
-use Rattle.state_model.specs.declared.stream.Stream.{Stream}
+use Rattle.volume_map.specs.state_model.declared.geometry.Geometry.{Geometry}
+use Rattle.volume_map.specs.state_model.declared.stream.Extents.{Extents}
+use Rattle.volume_map.specs.state_model.Files.{only_base}
+use Rattle.volume_map.specs.state_model.Streams.{has_cut_block}
+use Rattle.volume_map.specs.state_model.Loads.{table_of, table_slot, used_record, record_count}
+use Rattle.volume_map.specs.state_model.declared.stream.Stream.{Stream}
 use Rattle.bit_set.specs.Words.{byte_bit, bits_of_bytes}
-use Rattle.volume_model.specs.Volumes.{count_of, bytes_or, record_bitmap, cluster_bitmap}
+use Rattle.volume_map.specs.volume_model.Volumes.{count_of, bytes_or, record_bitmap, cluster_bitmap}
 use Rattle.stream_laws.specs.Sharing.{runs_in}
 use Rattle.stream_laws.specs.Rewrites.{StandsAlone}
 use Rattle.volume_map.specs.declared.head.Head.{Head}

@@ -6,11 +6,11 @@ use Rattle.disk_model.specs.declared.block.Change.{Change}
 use Rattle.disk_model.specs.declared.block.BlockKind.{BlockKind}
 use Rattle.disk_model.specs.declared.block.BlockKind.TheVariants.{FileRec}
 use Rattle.disk_model.specs.Sectors.{sectors, same_kind}
-use Rattle.record_model.specs.declared.runs.Run.{Run}
-use Rattle.state_model.specs.declared.stream.Extents.{Extents}
-use Rattle.state_model.specs.Streams.{block_at, holds, lcn_in}
-use Rattle.state_model.specs.Loads.{record_count}
-use Rattle.volume_model.specs.Owners.{covers}
+use Rattle.volume_map.specs.record_model.declared.runs.Run.{Run}
+use Rattle.volume_map.specs.state_model.declared.stream.Extents.{Extents}
+use Rattle.volume_map.specs.state_model.Streams.{block_at, holds, lcn_in}
+use Rattle.volume_map.specs.state_model.Loads.{record_count}
+use Rattle.volume_map.specs.volume_model.Owners.{covers}
 
 -- ---- blocks of a stream
 

@@ -1,17 +1,16 @@
 //! Records that stand alone.
 ghost use Rattle.std.specs.Prelude.{◌≡◌, false, Some, IfOk, IfSome};
-ghost use Rattle.record_model.specs.Constants.{attribute_list};
-ghost use Rattle.state_model.specs.Files.{has_type, only_base};
+ghost use Rattle.volume_map.specs.record_model.Constants.{attribute_list};
+ghost use Rattle.volume_map.specs.state_model.Files.{has_type, only_base};
 ghost use Rattle.volume_map.specs.Slots.{seen};
 ghost use Rattle.map_change.specs.Reading.{IsAlone};
 
 use crate::change::RecordChange;
-use file_record::FileRec;
 use host_base::Memory;
-use record_model::ATTRIBUTE_LIST;
-use state_model::ClusterSize;
 use std::alloc::Global;
-use volume_map::{Found, Head, Slot, cuts_index, has_type, is_base_record};
+use volume_map::{
+    ATTRIBUTE_LIST, ClusterSize, FileRec, Found, Head, Slot, cuts_index, has_type, is_base_record,
+};
 
 // The file that a record is by itself: none where it belongs to another one.
 fn only_base(file: FileRec) -> Option<FileRec>

@@ -1,6 +1,6 @@
 //! A change of a map, put in place.
 ghost use Rattle.std.specs.Prelude.{◌≡◌, ◌-◌, ◌<◌, ◌≤◌, ◌++◌, [], ◌∷◌, None, length, replicate, slice_set, vec_capacity};
-ghost use Rattle.state_model.specs.Loads.{record_count};
+ghost use Rattle.volume_map.specs.state_model.Loads.{record_count};
 ghost use Rattle.volume_map.specs.Heads.{no_head};
 ghost use Rattle.map_change.specs.Parts.{live_parts};
 ghost use Rattle.map_change.specs.Applying.{resized, tabled, applied_one, applied_all, runs_put, bits_put, bits_applied, records_applied, applied, HasRoomFor, HasRoom};
@@ -8,9 +8,7 @@ ghost use Rattle.map_change.specs.Applying.{resized, tabled, applied_one, applie
 use crate::change::{BitRun, BitsChange, MapChange, PartsChange, RecordChange};
 use crate::live::LiveMap;
 use bit_set::BitSet;
-use file_record::FileRec;
-use state_model::Extents;
-use volume_map::Head;
+use volume_map::{Extents, FileRec, Head};
 
 // ---- the table
 

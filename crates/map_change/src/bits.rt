@@ -2,11 +2,11 @@
 ghost use Rattle.std.specs.Prelude.{◌≡◌, ◌*◌, ◌≤◌, ◌==◌, true, List, [], find, length, IfOk, IfSome};
 ghost use Rattle.std.specs.Option.{option_copied};
 ghost use Rattle.bit_set.specs.Words.{bits_of_bytes};
-ghost use Rattle.state_model.specs.Files.{only_base};
-ghost use Rattle.state_model.specs.Streams.{stream_bytes};
+ghost use Rattle.volume_map.specs.state_model.Files.{only_base};
+ghost use Rattle.volume_map.specs.state_model.Streams.{stream_bytes};
 ghost use Rattle.stream_laws.specs.Sharing.{runs_in};
-ghost use Rattle.volume_model.specs.Volumes.{count_of, file_in, file_stream, record_bitmap, cluster_bitmap};
-ghost use Rattle.block_view.specs.Views.{AsksView};
+ghost use Rattle.volume_map.specs.volume_model.Volumes.{count_of, file_in, file_stream, record_bitmap, cluster_bitmap};
+ghost use Rattle.volume_map.specs.block_view.Views.{AsksView};
 ghost use Rattle.volume_map.specs.Errors.{map_cause, NeverRefused};
 ghost use Rattle.volume_map.specs.Maps.{volume_in};
 ghost use Rattle.map_change.specs.declared.change.RecordChange.{RecordChange};
@@ -20,15 +20,13 @@ use crate::live::LiveMap;
 use crate::marking::sector_runs;
 use crate::numbers::touched_numbers;
 use bit_set::BitSet;
-use block_view::View;
 use disk_model::{BlockKind, Body, Change};
-use file_record::{FileRec, file_at};
 use host_base::Memory;
-use record_model::{BITMAP_TYPE, DATA, Run};
-use state_model::{ClusterSize, Extents, Stream};
 use std::alloc::{AllocError, Global};
-use stream_map::{front, stream_of};
-use volume_map::{MapFault, VolumeMap, file_stream, is_base_record, stream_or_empty};
+use volume_map::{
+    BITMAP_TYPE, ClusterSize, DATA, Extents, FileRec, MapFault, Run, Stream, View, VolumeMap,
+    file_at, file_stream, front, is_base_record, stream_of, stream_or_empty,
+};
 
 // The numbers of the files of the file table and of the clusters' bitmap.
 const TABLE_FILE: u64 = 0;

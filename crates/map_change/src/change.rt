@@ -4,9 +4,7 @@ ghost use Rattle.map_change.specs.Plain.{is_plain};
 
 use crate::live::LiveMap;
 use bit_set::BitSet;
-use file_record::FileRec;
-use state_model::Extents;
-use volume_map::Head;
+use volume_map::{Extents, FileRec, Head};
 
 /// What is put in the place of a record.
 #[derive(Debug, Drop)]

@@ -5,9 +5,8 @@ ghost use Rattle.map_change.specs.Touching.{AgreeBelow, NoneBelow, KeepsPlaces, 
 
 use crate::numbers::touched_numbers;
 use disk_model::{BlockKind, Change};
-use record_model::Run;
-use state_model::{ClusterSize, Extents};
 use std::alloc::{AllocError, Global};
+use volume_map::{ClusterSize, Extents, Run};
 
 // The most records that a file table has, and the most clusters that these lie in.
 const MOST_RECORDS: u64 = 1_048_576;

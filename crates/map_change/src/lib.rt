@@ -17,11 +17,9 @@ mod preparing;
 mod reading;
 
 pub use applying::apply;
-pub use block_view::{View, ViewFault};
 pub use change::{BitRun, BitsChange, MapChange, PartsChange, RecordChange};
 pub use disk_model::Change;
 pub use live::LiveMap;
 pub use loading::load_live;
 pub use preparing::prepare;
-pub use state_model::{Geometry, MapRefusal};
-pub use volume_map::{MapFault, VolumeMap};
+pub use volume_map::{Geometry, Link, MapFault, MapRefusal, Upcase, View, ViewFault, VolumeMap};

@@ -2,18 +2,14 @@
 ghost use Rattle.std.specs.Prelude.{◌≡◌, ◌*◌, ◌^◌, ◌<◌, IfSome};
 ghost use Rattle.std.specs.List.{list_all};
 ghost use Rattle.host_base.specs.Answers.{GivesOrFails};
-ghost use Rattle.block_view.specs.Views.{AsksView};
+ghost use Rattle.volume_map.specs.block_view.Views.{AsksView};
 ghost use Rattle.volume_map.specs.Errors.{map_cause};
 ghost use Rattle.map_change.specs.Plain.{is_plain};
 ghost use Rattle.map_change.specs.Parts.{map_of, live_parts};
 
 use crate::live::LiveMap;
-use block_view::View;
-use file_record::FileRec;
-use record_model::ATTRIBUTE_LIST;
-use state_model::Geometry;
 use std::alloc::Global;
-use volume_map::{MapFault, has_type, load_volume};
+use volume_map::{ATTRIBUTE_LIST, FileRec, Geometry, MapFault, View, has_type, load_volume};
 
 // Whether the file, if there is one, has no attribute list.
 pub fn is_plain(file: &Option<FileRec>) -> bool

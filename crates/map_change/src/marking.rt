@@ -1,19 +1,16 @@
 //! The bits of sectors, as runs of one value.
 ghost use Rattle.std.specs.Prelude.{◌≡◌, ℕ, ◌+◌, ◌*◌, ◌/◌, ◌^◌, ◌<◌, ◌≤◌, Bool, [], ◌∷◌, ◌++◌, length, IfOk, IfSome, OnOk};
 ghost use Rattle.bit_set.specs.Words.{byte_bit};
-ghost use Rattle.state_model.specs.Streams.{stream_bytes};
-ghost use Rattle.block_view.specs.Views.{AsksView};
+ghost use Rattle.volume_map.specs.state_model.Streams.{stream_bytes};
+ghost use Rattle.volume_map.specs.block_view.Views.{AsksView};
 ghost use Rattle.volume_map.specs.Errors.{map_cause, NeverRefused};
 ghost use Rattle.map_change.specs.Marking.{TellsMore, TellsSector};
 ghost use Rattle.map_change.specs.Reading.{TellBits};
 
 use crate::change::BitRun;
-use block_view::View;
 use disk_model::Body;
-use state_model::{ClusterSize, Stream};
 use std::alloc::{AllocError, Global};
-use stream_map::front;
-use volume_map::MapFault;
+use volume_map::{ClusterSize, MapFault, Stream, View, front};
 
 // The bits of a sector.
 const SECTOR_BITS: u64 = 4096;

@@ -1,13 +1,12 @@
 //! The blocks of a stream that changes may be of, by their places.
 ghost use Rattle.std.specs.Prelude.{◌≡◌, ◌++◌, ◌/◌, [], IfOk, OnOk};
 ghost use Rattle.std.specs.List.{cons_option, filter_map, flat_map};
-ghost use Rattle.volume_model.specs.Owners.{covers};
+ghost use Rattle.volume_map.specs.volume_model.Owners.{covers};
 ghost use Rattle.map_change.specs.Touching.{number_at, numbers_of, touched_numbers};
 
 use disk_model::{Block, BlockKind, Change};
-use record_model::Run;
-use state_model::ClusterSize;
 use std::alloc::{AllocError, Global};
+use volume_map::{ClusterSize, Run};
 
 // Whether the run has this cluster.
 fn covers(cluster: u64, run: &Run) -> bool

@@ -3,11 +3,11 @@ ghost use Rattle.std.specs.Prelude.{◌≡◌, ◌*◌, ◌^◌, ◌<◌, ◌≤
 ghost use Rattle.std.specs.Option.{option_map};
 ghost use Rattle.host_base.specs.Answers.{GivesOrFails};
 ghost use Rattle.disk_model.specs.declared.block.BlockKind.TheVariants.{FileRec};
-ghost use Rattle.state_model.specs.Streams.{has_cut_block};
-ghost use Rattle.state_model.specs.Loads.{record_count, table_of};
-ghost use Rattle.block_view.specs.Borrowed.{BorrowedView};
-ghost use Rattle.block_view.specs.Changes.{Fits, content_after};
-ghost use Rattle.block_view.specs.Views.{AsksView};
+ghost use Rattle.volume_map.specs.state_model.Streams.{has_cut_block};
+ghost use Rattle.volume_map.specs.state_model.Loads.{record_count, table_of};
+ghost use Rattle.volume_map.specs.block_view.Borrowed.{BorrowedView};
+ghost use Rattle.volume_map.specs.block_view.Changes.{Fits, content_after};
+ghost use Rattle.volume_map.specs.block_view.Views.{AsksView};
 ghost use Rattle.volume_map.specs.Errors.{map_cause, NeverRefused};
 ghost use Rattle.map_change.specs.Parts.{map_of, live_parts, geometry_in};
 ghost use Rattle.map_change.specs.Applying.{applied, HasRoomFor, HasRoom};
@@ -20,13 +20,12 @@ use crate::keeping::{changed_numbers, kept_records};
 use crate::live::LiveMap;
 use crate::loading::load_live;
 use crate::reading::read_records;
-use block_view::{Overlay, View};
 use disk_model::{BlockKind, Body, Change};
 use host_base::Memory;
-use state_model::{ClusterSize, Extents, Geometry};
 use std::alloc::{AllocError, Global};
-use stream_map::has_cut_block;
-use volume_map::{MapFault, VolumeMap, table_of};
+use volume_map::{
+    ClusterSize, Extents, Geometry, MapFault, Overlay, View, VolumeMap, has_cut_block, table_of,
+};
 
 // Where a map's file table is found.
 fn geometry_of(map: &VolumeMap) -> Geometry

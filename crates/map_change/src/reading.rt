@@ -1,16 +1,14 @@
 //! The records that stand after changes.
 ghost use Rattle.std.specs.Prelude.{◌≡◌, ◌++◌, ◌∷◌, [], IfOk, IfSome, OnOk};
-ghost use Rattle.block_view.specs.Views.{AsksView};
+ghost use Rattle.volume_map.specs.block_view.Views.{AsksView};
 ghost use Rattle.volume_map.specs.Errors.{map_cause, NeverRefused};
 ghost use Rattle.map_change.specs.Reading.{IsRead, AreRead};
 
 use crate::alone::alone;
 use crate::change::RecordChange;
-use block_view::View;
 use disk_model::Body;
-use state_model::{ClusterSize, Extents};
 use std::alloc::{AllocError, Global};
-use volume_map::{MapFault, table_found};
+use volume_map::{ClusterSize, Extents, MapFault, View, table_found};
 
 const MOST_RECORDS: u64 = 1_048_576;
 

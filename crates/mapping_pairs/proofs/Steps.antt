@@ -1,7 +1,7 @@
 -- One step of the reader's loop, over plain lists.
 use Rattle.std.proofs.Common.{◌≡◌, ◌≢◌, ℕ, suc, ◌+◌, ◌-◌, ◌<◌, List, [], ◌∷◌, ◌++◌, length, drop, Result, Ok, Err, refl, sym, ap, ◌∙◌, arith}
 use Rattle.std.proofs.lemmas.List.{append_assoc, append-nil, length-append}
-use Rattle.host_base.specs.Answers.{◌>>=◌, Explains}
+use Rattle.record_model.specs.host_base.Answers.{◌>>=◌, Explains}
 use Rattle.record_model.specs.declared.runs.Run.{Run}
 use Rattle.record_model.specs.declared.runs.PairsFault.{PairsFault}
 use Rattle.record_model.specs.declared.runs.PairsFault.TheVariants.{Header, Cut, Range, Memory}

@@ -1,5 +1,5 @@
 ghost use Rattle.std.specs.Prelude.{◌≡◌, ◌+◌, ◌<◌, ◌≤◌, ◌^◌, length, OnOk, IfOk, IfSome};
-ghost use Rattle.host_base.specs.Answers.{Gives};
+ghost use Rattle.record_model.specs.host_base.Answers.{Gives};
 ghost use Rattle.record_model.specs.Pairs.{runs_of, run_at, length_at, lcn_at, signed, pairs_cause, cluster_limit, length_width, delta_width, behind};
 ghost use Rattle.mapping_pairs.specs.Reading.{place_of};
 

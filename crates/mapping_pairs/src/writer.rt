@@ -2,8 +2,7 @@ ghost use Rattle.std.specs.Prelude.{◌≡◌, ◌+◌, ◌++◌, ◌∷◌, [],
 ghost use Rattle.record_model.specs.Pairs.{pairs_of, pair_of, signed_bytes, signed_width, fits_bytes, delta_bytes, cluster_limit, HasSpelling, first_vcn};
 
 use byteorder::{ByteOrder, LittleEndian};
-use host_base::Memory;
-use record_model::{Run, Runs};
+use record_model::{Memory, Run, Runs};
 use std::alloc::{AllocError, Global};
 
 /// Writes runs as mapping pairs (Linux-NTFS documentation, "Data runs") in the fewest bytes, with

@@ -10,22 +10,22 @@ use Rattle.disk_model.specs.Sectors.{are_rivals}
 use Rattle.disk_model.specs.Content.{Content}
 use Rattle.disk_model.specs.Writes.{bytes_after}
 use Rattle.sector_device.specs.Moments.{Changes}
-use Rattle.state_model.specs.declared.geometry.Geometry.{Geometry}
+use Rattle.state_store.specs.state_model.declared.geometry.Geometry.{Geometry}
 use Rattle.block_view.specs.Changes.{writes_of, content_after}
-use Rattle.volume_model.specs.Indexes.{void_block}
-use Rattle.map_change.specs.Parts.{MapParts}
-use Rattle.plan_owners.specs.States.{Stands}
-use Rattle.plan_owners.proofs.Agreed.{stands_now}
-use Rattle.state_blocks.specs.Needing.{IsNeeded, AgreeOnNeeded}
-use Rattle.state_blocks.specs.Drafts.{is_changed, DraftIn}
-use Rattle.state_blocks.proofs.Needing.{agree_owned, needed_before}
-use Rattle.store_model.specs.Volumes.{is_known}
-use Rattle.store_model.proofs.Told.{true≢false}
-use Rattle.store_claims.specs.Windows.{StoreWindow}
-use Rattle.txn_model.specs.Values.{StoreFacts, own_of}
-use Rattle.txn_laws.specs.Windows.{IsShown}
-use Rattle.txn_laws.proofs.Showing.{present_shown}
-use Rattle.txn_core.specs.Views.{present_on}
+use Rattle.state_store.specs.volume_model.Indexes.{void_block}
+use Rattle.state_store.specs.map_change.Parts.{MapParts}
+use Rattle.state_store.specs.plan_owners.States.{Stands}
+use Rattle.state_store.proofs.plan_owners.Agreed.{stands_now}
+use Rattle.state_store.specs.state_blocks.Needing.{IsNeeded, AgreeOnNeeded}
+use Rattle.state_store.specs.state_blocks.Drafts.{is_changed, DraftIn}
+use Rattle.state_store.proofs.state_blocks.Needing.{agree_owned, needed_before}
+use Rattle.state_store.specs.store_model.Volumes.{is_known}
+use Rattle.state_store.proofs.store_model.Told.{true≢false}
+use Rattle.state_store.specs.store_claims.Windows.{StoreWindow}
+use Rattle.state_store.specs.txn_model.Values.{StoreFacts, own_of}
+use Rattle.state_store.specs.txn_laws.Windows.{IsShown}
+use Rattle.state_store.proofs.txn_laws.Showing.{present_shown}
+use Rattle.state_store.specs.txn_core.Views.{present_on}
 use Rattle.state_store.specs.Volumes.{geometry_of}
 use Rattle.state_store.specs.Changes.{MayLog, AreApart, LeadsOn}
 use Rattle.state_store.specs.Windows.{changed_by}

@@ -11,18 +11,18 @@ use Rattle.disk_model.specs.declared.block.BlockKind.TheVariants.{Plain, FileRec
 use Rattle.disk_model.specs.Sectors.{sectors, same_kind, same_block, are_rivals}
 use Rattle.disk_model.specs.Content.{Content}
 use Rattle.disk_model.proofs.Frames.{same_block-is}
-use Rattle.state_model.specs.declared.geometry.Geometry.{Geometry}
-use Rattle.stream_laws.proofs.Changing.{has_sectors}
-use Rattle.volume_model.specs.Volumes.{Volume, volume_of}
-use Rattle.state_model.specs.declared.geometry.MapRefusal.{MapRefusal}
-use Rattle.volume_model.specs.Indexes.{void_block}
-use Rattle.plan_owners.specs.States.{Stands}
-use Rattle.state_blocks.specs.Needing.{IsNeeded}
-use Rattle.state_blocks.specs.Drafts.{is_changed}
-use Rattle.store_model.specs.Volumes.{is_known}
-use Rattle.store_model.proofs.Told.{true≢false, rivals_both}
-use Rattle.store_claims.specs.Windows.{StoreWindow}
-use Rattle.txn_model.specs.Values.{StoreFacts, own_of}
+use Rattle.state_store.specs.state_model.declared.geometry.Geometry.{Geometry}
+use Rattle.state_store.proofs.stream_laws.Changing.{has_sectors}
+use Rattle.state_store.specs.volume_model.Volumes.{Volume, volume_of}
+use Rattle.state_store.specs.state_model.declared.geometry.MapRefusal.{MapRefusal}
+use Rattle.state_store.specs.volume_model.Indexes.{void_block}
+use Rattle.state_store.specs.plan_owners.States.{Stands}
+use Rattle.state_store.specs.state_blocks.Needing.{IsNeeded}
+use Rattle.state_store.specs.state_blocks.Drafts.{is_changed}
+use Rattle.state_store.specs.store_model.Volumes.{is_known}
+use Rattle.state_store.proofs.store_model.Told.{true≢false, rivals_both}
+use Rattle.state_store.specs.store_claims.Windows.{StoreWindow}
+use Rattle.state_store.specs.txn_model.Values.{StoreFacts, own_of}
 use Rattle.state_store.specs.declared.fault.PutFault.{PutFault}
 use Rattle.state_store.specs.Claims.{NoRival}
 use Rattle.state_store.specs.Changes.{MayLog, AreBeside, AreApart}

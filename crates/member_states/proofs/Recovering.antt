@@ -17,26 +17,26 @@ use Rattle.disk_model.proofs.Frames.{same_block-is, bytes_elsewhere, overlay_els
 use Rattle.disk_model.proofs.Sectors.{length-body_of}
 use Rattle.sector_device.specs.Disks.{Disk, MayLeave}
 use Rattle.sector_device.specs.Moments.{Changes, MayLeaveNow, LeftSince}
-use Rattle.device_view.proofs.SectorsRead.{raw_from-past}
+use Rattle.state_store.proofs.device_view.SectorsRead.{raw_from-past}
 use Rattle.log_model.specs.declared.entry.Entry.{Entry}
 use Rattle.log_model.specs.declared.entry.Act.{Act}
 use Rattle.log_model.specs.declared.entry.Act.TheVariants.{Update, Commit}
 use Rattle.log_model.specs.Logs.{kind_of, block_of_kind, is_misplaced, first_misplaced, updates, is_ended, is_shadowed, undo_of, redo_of, undos_back, redos, recovery_of, recovered}
 use Rattle.log_model.proofs.Recovering.{stays, changes}
-use Rattle.log_page.specs.declared.places.LogPlace.{LogPlace}
-use Rattle.state_model.specs.declared.geometry.Geometry.{Geometry}
-use Rattle.volume_model.specs.Volumes.{Volume}
-use Rattle.volume_model.specs.Indexes.{void_block}
-use Rattle.plan_owners.proofs.Agreed.{stands_now, tree_now}
-use Rattle.state_blocks.specs.Needing.{IsNeeded, AgreeOnNeeded}
-use Rattle.state_blocks.proofs.Needing.{agree_owned}
-use Rattle.store_model.specs.Logs.{has_update}
-use Rattle.store_model.specs.Volumes.{is_known}
-use Rattle.store_model.proofs.Told.{true≢false}
-use Rattle.store_claims.specs.Windows.{StoreWindow}
-use Rattle.txn_model.specs.Values.{StoreFacts, own_of}
-use Rattle.txn_laws.specs.Windows.{HasWindow, RecoversWithin, During}
-use Rattle.txn_laws.proofs.Telling.{at_return}
+use Rattle.state_store.specs.log_page.declared.places.LogPlace.{LogPlace}
+use Rattle.state_store.specs.state_model.declared.geometry.Geometry.{Geometry}
+use Rattle.state_store.specs.volume_model.Volumes.{Volume}
+use Rattle.state_store.specs.volume_model.Indexes.{void_block}
+use Rattle.state_store.proofs.plan_owners.Agreed.{stands_now, tree_now}
+use Rattle.state_store.specs.state_blocks.Needing.{IsNeeded, AgreeOnNeeded}
+use Rattle.state_store.proofs.state_blocks.Needing.{agree_owned}
+use Rattle.state_store.specs.store_model.Logs.{has_update}
+use Rattle.state_store.specs.store_model.Volumes.{is_known}
+use Rattle.state_store.proofs.store_model.Told.{true≢false}
+use Rattle.state_store.specs.store_claims.Windows.{StoreWindow}
+use Rattle.state_store.specs.txn_model.Values.{StoreFacts, own_of}
+use Rattle.state_store.specs.txn_laws.Windows.{HasWindow, RecoversWithin, During}
+use Rattle.state_store.proofs.txn_laws.Telling.{at_return}
 use Rattle.member_states.specs.Members.{VolumeBase, base_of, is_found, BearsFound, IsSafe, void_body, MemberIs, MembersAre}
 use Rattle.member_states.specs.Crashes.{RecoversToState}
 

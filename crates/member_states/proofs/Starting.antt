@@ -6,15 +6,15 @@ use Rattle.disk_model.specs.declared.block.Block.{Block}
 use Rattle.disk_model.specs.Sectors.{sector_of}
 use Rattle.disk_model.specs.Content.{Content, content_of}
 use Rattle.sector_device.specs.Moments.{Changes}
-use Rattle.state_model.specs.declared.geometry.Geometry.{Geometry}
-use Rattle.volume_model.specs.Volumes.{Volume}
-use Rattle.volume_model.specs.Indexes.{void_block}
-use Rattle.plan_owners.specs.States.{Stands}
-use Rattle.state_blocks.specs.Needing.{IsNeeded}
-use Rattle.store_model.specs.Volumes.{is_known}
-use Rattle.txn_model.specs.Values.{StoreFacts, own_of}
-use Rattle.txn_laws.specs.Windows.{HasStart}
-use Rattle.txn_laws.proofs.Telling.{is_open_of}
+use Rattle.state_store.specs.state_model.declared.geometry.Geometry.{Geometry}
+use Rattle.state_store.specs.volume_model.Volumes.{Volume}
+use Rattle.state_store.specs.volume_model.Indexes.{void_block}
+use Rattle.state_store.specs.plan_owners.States.{Stands}
+use Rattle.state_store.specs.state_blocks.Needing.{IsNeeded}
+use Rattle.state_store.specs.store_model.Volumes.{is_known}
+use Rattle.state_store.specs.txn_model.Values.{StoreFacts, own_of}
+use Rattle.state_store.specs.txn_laws.Windows.{HasStart}
+use Rattle.state_store.proofs.txn_laws.Telling.{is_open_of}
 use Rattle.state_store.proofs.Windowed.{newest_is_present}
 use Rattle.member_states.specs.Members.{base_of, is_found, IsSafe, void_body, IsClaimedState, MembersAre}
 use Rattle.member_states.proofs.Recovering.{void_is}

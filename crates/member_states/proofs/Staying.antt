@@ -4,17 +4,17 @@ use Rattle.host_base.specs.declared.outside.Failed.{Failed}
 use Rattle.disk_model.specs.declared.block.Block.{Block}
 use Rattle.disk_model.specs.declared.block.Body.{Body}
 use Rattle.disk_model.specs.Content.{Content}
-use Rattle.volume_model.specs.Volumes.{Volume}
-use Rattle.volume_model.specs.Indexes.{void_block}
-use Rattle.plan_owners.proofs.Agreed.{stands_now}
-use Rattle.state_blocks.specs.Needing.{IsNeeded, AgreeOnNeeded}
-use Rattle.state_blocks.proofs.Needing.{agree_owned, needed_before}
-use Rattle.store_claims.specs.Windows.{StoreWindow}
+use Rattle.state_store.specs.volume_model.Volumes.{Volume}
+use Rattle.state_store.specs.volume_model.Indexes.{void_block}
+use Rattle.state_store.proofs.plan_owners.Agreed.{stands_now}
+use Rattle.state_store.specs.state_blocks.Needing.{IsNeeded, AgreeOnNeeded}
+use Rattle.state_store.proofs.state_blocks.Needing.{agree_owned, needed_before}
+use Rattle.state_store.specs.store_claims.Windows.{StoreWindow}
 use Rattle.flush_policy.specs.declared.facts.StoreStep.{StoreStep}
 use Rattle.flush_policy.specs.declared.facts.StoreStep.TheVariants.{SealPage, WritePage, SyncDevice, WriteOut, BeginCheckpoint, WriteRestart}
-use Rattle.txn_model.specs.Values.{StoreFacts}
-use Rattle.txn_laws.specs.Windows.{AfterWrite, MovesTo}
-use Rattle.txn_core.specs.Steps.{AfterTurn}
+use Rattle.state_store.specs.txn_model.Values.{StoreFacts}
+use Rattle.state_store.specs.txn_laws.Windows.{AfterWrite, MovesTo}
+use Rattle.state_store.specs.txn_core.Steps.{AfterTurn}
 use Rattle.member_states.specs.Members.{VolumeBase, IsSafe, IsClaimedState, MembersAre}
 
 -- ---- one content

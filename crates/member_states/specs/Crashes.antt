@@ -5,20 +5,20 @@ use Rattle.disk_model.specs.Content.{Content, content_of}
 use Rattle.sector_device.specs.Moments.{Changes, MayLeaveNow, LeftSince}
 use Rattle.log_model.specs.declared.entry.Entry.{Entry}
 use Rattle.log_model.specs.Logs.{recovered}
-use Rattle.log_page.specs.declared.places.LogPlace.{LogPlace}
-use Rattle.log_page.specs.declared.restart.Restart.{Restart}
-use Rattle.log_page.specs.LiveLogs.{live_log}
-use Rattle.log_reading.specs.Fronts.{chosen_in}
-use Rattle.state_model.specs.declared.geometry.Geometry.{Geometry}
-use Rattle.volume_model.specs.Volumes.{Volume}
-use Rattle.volume_state.specs.Trees.{tree_of}
-use Rattle.plan_owners.specs.States.{Stands}
-use Rattle.state_blocks.specs.Needing.{AgreeOnNeeded}
-use Rattle.store_model.specs.Geometry.{SectorBytes}
-use Rattle.store_claims.specs.Windows.{StoreWindow}
-use Rattle.ring_laws.specs.PageBytes.{raw_page}
-use Rattle.txn_model.specs.Values.{StoreFacts}
-use Rattle.txn_laws.specs.Windows.{HasWindow, RecoversWithin, During}
+use Rattle.state_store.specs.log_page.declared.places.LogPlace.{LogPlace}
+use Rattle.state_store.specs.log_page.declared.restart.Restart.{Restart}
+use Rattle.state_store.specs.log_page.LiveLogs.{live_log}
+use Rattle.state_store.specs.log_reading.Fronts.{chosen_in}
+use Rattle.state_store.specs.state_model.declared.geometry.Geometry.{Geometry}
+use Rattle.state_store.specs.volume_model.Volumes.{Volume}
+use Rattle.state_store.specs.volume_state.Trees.{tree_of}
+use Rattle.state_store.specs.plan_owners.States.{Stands}
+use Rattle.state_store.specs.state_blocks.Needing.{AgreeOnNeeded}
+use Rattle.state_store.specs.store_model.Geometry.{SectorBytes}
+use Rattle.state_store.specs.store_claims.Windows.{StoreWindow}
+use Rattle.state_store.specs.ring_laws.PageBytes.{raw_page}
+use Rattle.state_store.specs.txn_model.Values.{StoreFacts}
+use Rattle.state_store.specs.txn_laws.Windows.{HasWindow, RecoversWithin, During}
 use Rattle.member_states.specs.Members.{VolumeBase, base_of, BearsFound, MemberIs, MembersAre}
 
 -- Recovery of the image reads a list of entries, and what it makes of the image is a state: it is the one so many commits back on each block from which that is read, and so it

@@ -6,15 +6,15 @@ use Rattle.disk_model.specs.declared.block.Change.{Change}
 use Rattle.disk_model.specs.Content.{Content, HasSizes}
 use Rattle.sector_device.specs.Disks.{SeesDisk}
 use Rattle.sector_device.specs.Moments.{Changes}
-use Rattle.volume_model.specs.Indexes.{void_block}
-use Rattle.map_change.specs.Parts.{MapParts}
-use Rattle.plan_owners.specs.States.{Stands}
-use Rattle.state_blocks.specs.Needing.{IsNeeded}
-use Rattle.store_claims.specs.Windows.{StoreWindow}
-use Rattle.txn_model.specs.Values.{StoreFacts}
-use Rattle.txn_laws.specs.Windows.{HasWindow}
-use Rattle.txn_core.specs.Views.{present_on}
-use Rattle.turn_laws.specs.Sparing.{IsSpared}
+use Rattle.state_store.specs.volume_model.Indexes.{void_block}
+use Rattle.state_store.specs.map_change.Parts.{MapParts}
+use Rattle.state_store.specs.plan_owners.States.{Stands}
+use Rattle.state_store.specs.state_blocks.Needing.{IsNeeded}
+use Rattle.state_store.specs.store_claims.Windows.{StoreWindow}
+use Rattle.state_store.specs.txn_model.Values.{StoreFacts}
+use Rattle.state_store.specs.txn_laws.Windows.{HasWindow}
+use Rattle.state_store.specs.txn_core.Views.{present_on}
+use Rattle.state_store.specs.turn_laws.Sparing.{IsSpared}
 use Rattle.state_store.specs.Volumes.{geometry_of}
 use Rattle.state_store.specs.Changes.{MayLog, AreApart, LeadsOn}
 use Rattle.member_states.specs.Members.{base_of, is_found, void_body, MembersAre}

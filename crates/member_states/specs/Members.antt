@@ -7,15 +7,15 @@ use Rattle.disk_model.specs.declared.block.BlockKind.TheVariants.{Index}
 use Rattle.disk_model.specs.Bytes.{zeros}
 use Rattle.disk_model.specs.Sectors.{same_block}
 use Rattle.disk_model.specs.Content.{Content, body_of, content_of}
-use Rattle.state_model.specs.declared.geometry.Geometry.{Geometry}
-use Rattle.volume_model.specs.Volumes.{Volume}
-use Rattle.volume_model.specs.Indexes.{void_block}
-use Rattle.plan_owners.specs.States.{Stands}
-use Rattle.state_blocks.specs.Needing.{IsNeeded}
-use Rattle.store_model.specs.Geometry.{SectorBytes}
-use Rattle.store_model.specs.Volumes.{is_known}
-use Rattle.store_claims.specs.Windows.{StoreWindow}
-use Rattle.txn_model.specs.Values.{StoreFacts, own_of}
+use Rattle.state_store.specs.state_model.declared.geometry.Geometry.{Geometry}
+use Rattle.state_store.specs.volume_model.Volumes.{Volume}
+use Rattle.state_store.specs.volume_model.Indexes.{void_block}
+use Rattle.state_store.specs.plan_owners.States.{Stands}
+use Rattle.state_store.specs.state_blocks.Needing.{IsNeeded}
+use Rattle.state_store.specs.store_model.Geometry.{SectorBytes}
+use Rattle.state_store.specs.store_model.Volumes.{is_known}
+use Rattle.state_store.specs.store_claims.Windows.{StoreWindow}
+use Rattle.state_store.specs.txn_model.Values.{StoreFacts, own_of}
 
 -- the body of an index block that is zeros
 abbrev pub void_body : Body

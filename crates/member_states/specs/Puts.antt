@@ -4,12 +4,12 @@ use Rattle.std.specs.List.{AllByRecursion}
 use Rattle.disk_model.specs.declared.block.Block.{Block}
 use Rattle.disk_model.specs.declared.block.Change.{Change}
 use Rattle.disk_model.specs.Content.{Content}
-use Rattle.state_model.specs.declared.geometry.Geometry.{Geometry}
-use Rattle.volume_model.specs.Volumes.{Volume}
-use Rattle.plan_owners.specs.States.{Stands}
-use Rattle.state_blocks.specs.Drafts.{DraftIn}
-use Rattle.store_claims.specs.Windows.{StoreWindow}
-use Rattle.txn_model.specs.Values.{StoreFacts}
+use Rattle.state_store.specs.state_model.declared.geometry.Geometry.{Geometry}
+use Rattle.state_store.specs.volume_model.Volumes.{Volume}
+use Rattle.state_store.specs.plan_owners.States.{Stands}
+use Rattle.state_store.specs.state_blocks.Drafts.{DraftIn}
+use Rattle.state_store.specs.store_claims.Windows.{StoreWindow}
+use Rattle.state_store.specs.txn_model.Values.{StoreFacts}
 use Rattle.state_store.specs.declared.fault.PutFault.{PutFault}
 use Rattle.state_store.specs.Changes.{MayLog, AreApart}
 use Rattle.state_store.specs.Windows.{changed_by, AfterPut, StaysWindow, AfterPutting}

@@ -3,10 +3,10 @@ use Rattle.std.specs.Prelude.{Bool, Result}
 use Rattle.host_base.specs.declared.outside.Failed.{Failed}
 use Rattle.disk_model.specs.declared.block.Block.{Block}
 use Rattle.flush_policy.specs.declared.facts.StoreStep.{StoreStep}
-use Rattle.store_claims.specs.Windows.{StoreWindow}
-use Rattle.txn_model.specs.Values.{StoreFacts}
-use Rattle.txn_laws.specs.Windows.{AfterWrite, MovesTo}
-use Rattle.txn_core.specs.Steps.{AfterTurn}
+use Rattle.state_store.specs.store_claims.Windows.{StoreWindow}
+use Rattle.state_store.specs.txn_model.Values.{StoreFacts}
+use Rattle.state_store.specs.txn_laws.Windows.{AfterWrite, MovesTo}
+use Rattle.state_store.specs.txn_core.Steps.{AfterTurn}
 use Rattle.member_states.specs.Members.{VolumeBase, MembersAre}
 
 -- A step that a store takes of itself leaves states in its window, whatever it answers: the bodies that it drops aren't claimed.

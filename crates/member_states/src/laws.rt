@@ -5,7 +5,7 @@ ghost use Rattle.member_states.specs.Puts.{PutsKeepStates};
 ghost use Rattle.member_states.specs.Starts.{StartsHoldStates};
 ghost use Rattle.member_states.specs.Steps.{StepsKeepStates};
 
-use state_blocks::needed_is_all;
+use state_store::needed_is_all;
 
 /// Law: whatever a crash leaves of a store whose window holds states recovers to one of them, with its
 /// tree; between two calls and inside one.

@@ -9,3 +9,4 @@ mod laws;
 pub use laws::{
     crashes_leave_states, puts_keep_states, starts_hold_states, steps_keep_states, volumes_may_put,
 };
+pub use state_store::{endings_tell, needed_is_all, puts_spare, steps_spare, windows_tell};

@@ -6,10 +6,10 @@ use Rattle.disk_model.specs.Sectors.{sector_of}
 use Rattle.disk_model.specs.Content.{Content, content_of}
 use Rattle.volume_model.specs.Volumes.{Volume, upper_of}
 use Rattle.log_recovery.specs.Recovering.{shadow_lsn}
-use Rattle.image_open.specs.declared.refusal.Refusal.TheVariants.{Short}
-use Rattle.image_open.specs.Writing.{OpenedToWrite, opened_to_write_in}
-use Rattle.image_read.specs.Checks.{volume_on, has_version, tree_on}
-use Rattle.volume_shadows.specs.Live.{least_live}
+use Rattle.volume_mount.specs.image_open.declared.refusal.Refusal.TheVariants.{Short}
+use Rattle.volume_mount.specs.image_open.Writing.{OpenedToWrite, opened_to_write_in}
+use Rattle.volume_mount.specs.image_read.Checks.{volume_on, has_version, tree_on}
+use Rattle.volume_mount.specs.volume_shadows.Live.{least_live}
 use Rattle.volume_mount.specs.Mounts.{content_behind, mounted_as, has_no_journal, has_pages, may_be_changed, Said, unless_said, unshadowed, ruled, placed, settled, paged, unjournaled, tried, loaded_on, mounted_by, mounted_in, mounted_of}
 use Rattle.mount_access.specs.declared.access.Access.TheVariants.{Change}
 use Rattle.mount_access.specs.Mounts.{tried_for, passed, loaded_for, mounted_in_for, mounted_for}

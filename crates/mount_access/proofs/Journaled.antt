@@ -7,13 +7,13 @@ use Rattle.disk_model.specs.Content.{Content, content_of}
 use Rattle.file_tree.specs.declared.tree.Tree.{Tree}
 use Rattle.state_model.specs.declared.stream.Extents.{Extents}
 use Rattle.volume_model.specs.Volumes.{Volume}
-use Rattle.image_open.specs.declared.refusal.Refusal.{Refusal}
-use Rattle.image_open.specs.declared.refusal.Refusal.TheVariants.{Short}
-use Rattle.image_open.specs.Volumes.{Opened}
-use Rattle.image_open.specs.Writing.{OpenedToWrite}
-use Rattle.image_read.specs.declared.reading.ReadJournal.{ReadJournal}
-use Rattle.image_read.specs.Checks.{volume_on, has_version, tree_on, loaded_in}
-use Rattle.image_read.specs.Records.{place_on, records_in, records_by, placed_records, volume_records, journal_in, journal_of}
+use Rattle.volume_mount.specs.image_open.declared.refusal.Refusal.{Refusal}
+use Rattle.volume_mount.specs.image_open.declared.refusal.Refusal.TheVariants.{Short}
+use Rattle.volume_mount.specs.image_open.Volumes.{Opened}
+use Rattle.volume_mount.specs.image_open.Writing.{OpenedToWrite}
+use Rattle.volume_mount.specs.image_read.declared.reading.ReadJournal.{ReadJournal}
+use Rattle.volume_mount.specs.image_read.Checks.{volume_on, has_version, tree_on, loaded_in}
+use Rattle.volume_mount.specs.image_read.Records.{place_on, records_in, records_by, placed_records, volume_records, journal_in, journal_of}
 use Rattle.volume_mount.specs.Mounts.{MountedVolume, content_behind, mounted_as}
 use Rattle.mount_access.specs.declared.access.Access.TheVariants.{Journal}
 use Rattle.mount_access.specs.Mounts.{tried_for, passed, opened_for, loaded_for, mounted_in_for, mounted_for}

@@ -9,11 +9,11 @@ use Rattle.volume_model.specs.Volumes.{Volume}
 use Rattle.volume_state.specs.Laws.{bare}
 use Rattle.volume_state.specs.Trees.{tree_of, checked}
 use Rattle.volume_state.proofs.Reports.{reports}
-use Rattle.image_open.specs.declared.refusal.Refusal.TheVariants.{Short}
-use Rattle.image_open.specs.Volumes.{Opened}
-use Rattle.image_open.specs.Writing.{OpenedToWrite}
-use Rattle.image_read.specs.Errors.{broken_refusal}
-use Rattle.image_read.specs.Checks.{volume_on, has_version, tree_on, volume_tree, loaded_in, check_in, check_of}
+use Rattle.volume_mount.specs.image_open.declared.refusal.Refusal.TheVariants.{Short}
+use Rattle.volume_mount.specs.image_open.Volumes.{Opened}
+use Rattle.volume_mount.specs.image_open.Writing.{OpenedToWrite}
+use Rattle.volume_mount.specs.image_read.Errors.{broken_refusal}
+use Rattle.volume_mount.specs.image_read.Checks.{volume_on, has_version, tree_on, volume_tree, loaded_in, check_in, check_of}
 use Rattle.volume_mount.specs.Mounts.{MountedVolume, tree_in, content_behind, mounted_as}
 use Rattle.mount_access.specs.declared.access.Access.TheVariants.{Look}
 use Rattle.mount_access.specs.Mounts.{tried_for, passed, opened_for, loaded_for, mounted_in_for, mounted_for}

@@ -8,12 +8,12 @@ use Rattle.volume_model.specs.Volumes.{Volume, volume_of}
 use Rattle.volume_state.specs.Rules.{first_broken}
 use Rattle.volume_state.specs.Trees.{checked}
 use Rattle.volume_state.proofs.Reports.{reports}
-use Rattle.image_open.specs.declared.refusal.Refusal.TheVariants.{Short}
-use Rattle.image_open.specs.Errors.{map_refusal}
-use Rattle.image_open.specs.Writing.{OpenedToWrite}
-use Rattle.image_read.specs.Errors.{broken_refusal}
-use Rattle.image_read.specs.Checks.{volume_on, has_version, tree_on}
-use Rattle.image_read.specs.States.{StandsFor}
+use Rattle.volume_mount.specs.image_open.declared.refusal.Refusal.TheVariants.{Short}
+use Rattle.volume_mount.specs.image_open.Errors.{map_refusal}
+use Rattle.volume_mount.specs.image_open.Writing.{OpenedToWrite}
+use Rattle.volume_mount.specs.image_read.Errors.{broken_refusal}
+use Rattle.volume_mount.specs.image_read.Checks.{volume_on, has_version, tree_on}
+use Rattle.volume_mount.specs.image_read.States.{StandsFor}
 use Rattle.volume_mount.specs.Mounts.{MountedVolume, upper_in, tree_in, content_behind, mounted_as, has_no_journal, has_pages, may_be_changed}
 use Rattle.mount_access.specs.declared.access.Access.{Access}
 use Rattle.mount_access.specs.declared.access.Access.TheVariants.{Look, Journal, Change}

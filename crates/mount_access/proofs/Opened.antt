@@ -11,10 +11,10 @@ use Rattle.log_page.specs.declared.places.LogPlace.{LogPlace}
 use Rattle.log_recovery.specs.LogStates.{LogState, recovery_in}
 use Rattle.log_recovery.specs.Own.{is_own}
 use Rattle.log_recovery.specs.Writing.{to_write_in, unless_foreign, first_update, is_barred}
-use Rattle.image_open.specs.declared.refusal.Refusal.{Refusal}
-use Rattle.image_open.specs.Errors.{log_refusal, refused_as}
-use Rattle.image_open.specs.Volumes.{Opened, boot_on, geometry_of, log_record, log_place, recovered_at, recovered_in, opened_by, opened_in}
-use Rattle.image_open.specs.Writing.{OpenedToWrite, found_by, opened_at, opened_of, opened_with, opened_behind, opened_to_write_in}
+use Rattle.volume_mount.specs.image_open.declared.refusal.Refusal.{Refusal}
+use Rattle.volume_mount.specs.image_open.Errors.{log_refusal, refused_as}
+use Rattle.volume_mount.specs.image_open.Volumes.{Opened, boot_on, geometry_of, log_record, log_place, recovered_at, recovered_in, opened_by, opened_in}
+use Rattle.volume_mount.specs.image_open.Writing.{OpenedToWrite, found_by, opened_at, opened_of, opened_with, opened_behind, opened_to_write_in}
 use Rattle.volume_mount.specs.Mounts.{content_behind}
 use Rattle.mount_access.specs.declared.access.Access.{Access}
 use Rattle.mount_access.specs.declared.access.Access.TheVariants.{Look, Journal, Change}

@@ -19,13 +19,13 @@ use Rattle.volume_state.specs.Journals.{limits_name, entries_name, limits_in, en
 use Rattle.volume_state.specs.Rules.{broken_1, broken_2, broken_3, broken_4, broken_5, broken_6, broken_7, broken_8, broken_9, first_broken}
 use Rattle.volume_state.specs.Trees.{volume_journal, tree_with, tree_of, checked}
 use Rattle.volume_state.proofs.Reports.{reports}
-use Rattle.usn_journal.specs.Places.{in_shape, place_of_streams, place_of_file, journal_place}
-use Rattle.usn_journal.specs.Pulls.{read_entries}
-use Rattle.image_open.specs.declared.refusal.Refusal.TheVariants.{NoJournal}
-use Rattle.image_read.specs.declared.reading.ReadJournal.{ReadJournal}
-use Rattle.image_read.specs.Errors.{broken_refusal}
-use Rattle.image_read.specs.Checks.{tree_on}
-use Rattle.image_read.specs.Records.{place_on, records_in}
+use Rattle.volume_mount.specs.usn_journal.Places.{in_shape, place_of_streams, place_of_file, journal_place}
+use Rattle.volume_mount.specs.usn_journal.Pulls.{read_entries}
+use Rattle.volume_mount.specs.image_open.declared.refusal.Refusal.TheVariants.{NoJournal}
+use Rattle.volume_mount.specs.image_read.declared.reading.ReadJournal.{ReadJournal}
+use Rattle.volume_mount.specs.image_read.Errors.{broken_refusal}
+use Rattle.volume_mount.specs.image_read.Checks.{tree_on}
+use Rattle.volume_mount.specs.image_read.Records.{place_on, records_in}
 use Rattle.mount_access.specs.Laws.{records_of}
 use Rattle.mount_access.proofs.Opened.{unrefused}
 

@@ -3,11 +3,11 @@ use Rattle.std.specs.Prelude.{◌≡◌, ℕ, List, Some, Result, Ok, Err}
 use Rattle.host_base.specs.Answers.{◌>>=◌}
 use Rattle.file_tree.specs.declared.journal.Journal.{Journal}
 use Rattle.volume_state.specs.Laws.{bare}
-use Rattle.image_open.specs.declared.refusal.Refusal.{Refusal}
-use Rattle.image_read.specs.declared.reading.ReadJournal.{ReadJournal}
-use Rattle.image_read.specs.Checks.{check_of}
-use Rattle.image_read.specs.Records.{journal_of}
-use Rattle.image_read.specs.States.{StandsFor}
+use Rattle.volume_mount.specs.image_open.declared.refusal.Refusal.{Refusal}
+use Rattle.volume_mount.specs.image_read.declared.reading.ReadJournal.{ReadJournal}
+use Rattle.volume_mount.specs.image_read.Checks.{check_of}
+use Rattle.volume_mount.specs.image_read.Records.{journal_of}
+use Rattle.volume_mount.specs.image_read.States.{StandsFor}
 use Rattle.volume_mount.specs.Mounts.{MountedVolume, tree_in, mounted_of}
 use Rattle.mount_access.specs.declared.access.Access.{Access}
 use Rattle.mount_access.specs.declared.access.Access.TheVariants as accesses

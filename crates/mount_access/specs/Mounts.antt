@@ -11,13 +11,13 @@ use Rattle.log_reading.specs.declared.fault.LogRefusal.{LogRefusal}
 use Rattle.log_recovery.specs.LogStates.{LogState, recovery_in}
 use Rattle.log_recovery.specs.Recovering.{shadow_lsn}
 use Rattle.log_recovery.specs.Writing.{to_write_in}
-use Rattle.image_open.specs.declared.refusal.Refusal.{Refusal}
-use Rattle.image_open.specs.Errors.{log_refusal, refused_as}
-use Rattle.image_open.specs.Clusters.{clusters_in}
-use Rattle.image_open.specs.Volumes.{boot_on, geometry_of, log_record, log_place, on_disk}
-use Rattle.image_open.specs.Writing.{OpenedToWrite, found_by}
-use Rattle.image_read.specs.Checks.{volume_on, has_version, tree_on}
-use Rattle.image_read.specs.Records.{place_on}
+use Rattle.volume_mount.specs.image_open.declared.refusal.Refusal.{Refusal}
+use Rattle.volume_mount.specs.image_open.Errors.{log_refusal, refused_as}
+use Rattle.volume_mount.specs.image_open.Clusters.{clusters_in}
+use Rattle.volume_mount.specs.image_open.Volumes.{boot_on, geometry_of, log_record, log_place, on_disk}
+use Rattle.volume_mount.specs.image_open.Writing.{OpenedToWrite, found_by}
+use Rattle.volume_mount.specs.image_read.Checks.{volume_on, has_version, tree_on}
+use Rattle.volume_mount.specs.image_read.Records.{place_on}
 use Rattle.volume_mount.specs.Mounts.{MountedVolume, upper_in, content_behind, mounted_as, has_no_journal, has_pages, may_be_changed, unshadowed}
 use Rattle.mount_access.specs.declared.access.Access.{Access}
 use Rattle.mount_access.specs.declared.access.Access.TheVariants.{Look, Journal, Change}

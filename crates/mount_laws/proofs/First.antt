@@ -2,12 +2,12 @@
 use Rattle.std.proofs.Common.{◌≡◌, ℕ, suc, ◌≤◌, Bool, true, false, ◌&&◌, cond, List, [], ◌∷◌, find, option_map, Option, Some, None, refl, sym, ap, ◌∙◌, inl, inr, arith}
 use Rattle.std.proofs.lemmas.Bool.{and_from}
 use Rattle.disk_model.specs.declared.block.Block.{Block}
-use Rattle.volume_model.specs.Volumes.{Volume}
-use Rattle.stream_laws.specs.Owners.{IsLive}
+use Rattle.volume_mount.specs.volume_model.Volumes.{Volume}
+use Rattle.volume_mount.specs.stream_laws.Owners.{IsLive}
 use Rattle.log_model.specs.declared.entry.Entry.{Entry}
 use Rattle.log_model.specs.Logs.{updates_rival, is_in_grid, is_shadowed, first_rival}
-use Rattle.log_recovery.specs.Recovering.{shadow_lsn}
-use Rattle.volume_shadows.proofs.Listing.{least_is_of, least_below}
+use Rattle.volume_mount.specs.log_recovery.Recovering.{shadow_lsn}
+use Rattle.volume_mount.proofs.volume_shadows.Listing.{least_is_of, least_below}
 use Rattle.mount_laws.specs.Firsts.{Rise, ShadowsLive, IsFirst, LeastIsFirst}
 
 -- the LSN of the first entry that passes

@@ -17,10 +17,10 @@ use Rattle.log_model.specs.declared.entry.Act.{Act}
 use Rattle.log_model.specs.declared.entry.Act.TheVariants.{Update, Commit}
 use Rattle.log_model.specs.Logs.{updates, block_of_kind, is_shadowed, is_ended, is_other, is_written_out, redo_of, undo_of, redos, undos_back, recovery_of, recovered}
 use Rattle.log_model.proofs.Recovering.{stays, changes}
-use Rattle.log_page.specs.declared.places.LogPlace.{LogPlace}
-use Rattle.log_recovery.specs.LogStates.{LogState, recovery_in}
-use Rattle.log_recovery.specs.Own.{is_own}
-use Rattle.log_recovery.specs.Writing.{is_spelled, is_put_out, is_barred, updates_such, first_update, unless_foreign, to_write_in}
+use Rattle.log_laws.specs.log_page.declared.places.LogPlace.{LogPlace}
+use Rattle.volume_mount.specs.log_recovery.LogStates.{LogState, recovery_in}
+use Rattle.volume_mount.specs.log_recovery.Own.{is_own}
+use Rattle.volume_mount.specs.log_recovery.Writing.{is_spelled, is_put_out, is_barred, updates_such, first_update, unless_foreign, to_write_in}
 
 -- ---- no update of a barred block
 

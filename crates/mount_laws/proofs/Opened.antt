@@ -8,28 +8,28 @@ use Rattle.disk_model.specs.Sectors.{overlap}
 use Rattle.disk_model.specs.Content.{Content}
 use Rattle.record_model.specs.Records.{Record}
 use Rattle.record_model.proofs.Answering.{steps_from_ok, needs_from_ok}
-use Rattle.state_model.specs.declared.geometry.Geometry.{Geometry}
-use Rattle.state_model.specs.declared.stream.Stream.{Stream}
-use Rattle.state_model.specs.declared.stream.Stream.TheVariants.{Held, Placed}
-use Rattle.state_model.specs.Loads.{slot_of, judged, boot_block, data_stream}
+use Rattle.volume_mount.specs.state_model.declared.geometry.Geometry.{Geometry}
+use Rattle.volume_mount.specs.state_model.declared.stream.Stream.{Stream}
+use Rattle.volume_mount.specs.state_model.declared.stream.Stream.TheVariants.{Held, Placed}
+use Rattle.volume_mount.specs.state_model.Loads.{slot_of, judged, boot_block, data_stream}
 use Rattle.boot_sector.specs.declared.boot.Boot.{Boot}
 use Rattle.boot_sector.specs.declared.boot.BootFault.{BootFault}
 use Rattle.boot_sector.specs.BootSectors.{boot_of, clusters, fields_of, signs_of, sizes_fit, places_fit, most_clusters}
-use Rattle.volume_model.specs.Volumes.{Volume, file_in, log_file}
+use Rattle.volume_mount.specs.volume_model.Volumes.{Volume, file_in, log_file}
 use Rattle.log_model.specs.Logs.{recovered}
-use Rattle.log_page.specs.declared.places.LogPlace.{LogPlace}
-use Rattle.log_reading.specs.LogPages.{log_sector}
-use Rattle.log_reading.specs.Rings.{IsRingPlace}
-use Rattle.log_recovery.specs.LogStates.{LogState}
-use Rattle.log_recovery.specs.Own.{is_own, is_in_log}
-use Rattle.log_recovery.specs.Writing.{to_write_in}
-use Rattle.image_open.specs.declared.refusal.Refusal.{Refusal}
-use Rattle.image_open.specs.Errors.{boot_refusal, map_refusal, log_refusal, refused_as}
-use Rattle.image_open.specs.LogPlaces.{stream_place, place_of_log}
-use Rattle.image_open.specs.Volumes.{boot_place, boot_in, boot_on, sized_on, geometry_of, log_record, log_place, data_of}
-use Rattle.image_open.specs.Clusters.{clusters_in, eight_sectors}
-use Rattle.image_open.specs.Writing.{OpenedToWrite, found_by, log_to_write, opened_at, opened_of, opened_with, opened_behind, opened_to_write_in}
-use Rattle.stream_laws.proofs.Rewriting.{volume_parts}
+use Rattle.log_laws.specs.log_page.declared.places.LogPlace.{LogPlace}
+use Rattle.volume_mount.specs.log_reading.LogPages.{log_sector}
+use Rattle.volume_mount.specs.log_reading.Rings.{IsRingPlace}
+use Rattle.volume_mount.specs.log_recovery.LogStates.{LogState}
+use Rattle.volume_mount.specs.log_recovery.Own.{is_own, is_in_log}
+use Rattle.volume_mount.specs.log_recovery.Writing.{to_write_in}
+use Rattle.volume_mount.specs.image_open.declared.refusal.Refusal.{Refusal}
+use Rattle.volume_mount.specs.image_open.Errors.{boot_refusal, map_refusal, log_refusal, refused_as}
+use Rattle.volume_mount.specs.image_open.LogPlaces.{stream_place, place_of_log}
+use Rattle.volume_mount.specs.image_open.Volumes.{boot_place, boot_in, boot_on, sized_on, geometry_of, log_record, log_place, data_of}
+use Rattle.volume_mount.specs.image_open.Clusters.{clusters_in, eight_sectors}
+use Rattle.volume_mount.specs.image_open.Writing.{OpenedToWrite, found_by, log_to_write, opened_at, opened_of, opened_with, opened_behind, opened_to_write_in}
+use Rattle.volume_mount.proofs.stream_laws.Rewriting.{volume_parts}
 use Rattle.plan_owners.specs.States.{Stands}
 use Rattle.mount_laws.proofs.Kept.{kept_stays}
 use Rattle.mount_laws.proofs.Records.{parts, data_once, data_inside, its_slot, not_torn, judged_used}

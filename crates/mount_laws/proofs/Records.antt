@@ -11,24 +11,24 @@ use Rattle.disk_model.specs.Content.{Content}
 use Rattle.record_model.specs.declared.attribute.Attr.{Attr}
 use Rattle.record_model.specs.Records.{Record}
 use Rattle.record_model.specs.Constants.{data_type}
-use Rattle.state_model.specs.declared.geometry.Geometry.{Geometry}
-use Rattle.state_model.specs.declared.geometry.MapRefusal.{MapRefusal}
-use Rattle.state_model.specs.declared.stream.Extents.{Extents}
-use Rattle.state_model.specs.declared.stream.Stream.{Stream}
-use Rattle.state_model.specs.declared.stream.Stream.TheVariants.{Placed}
-use Rattle.state_model.specs.Streams.{attribute_runs, block_at, stream_of}
-use Rattle.state_model.specs.Loads.{Slot, Used, slot_of, slot_by, slot_at, table_slot, judged, boot_block, data_stream, record_count, entries_of, named_attrs, all_attrs, whole_record}
-use Rattle.volume_model.specs.Volumes.{Volume, file_in, log_file}
-use Rattle.volume_model.specs.Owners.{volume_runs, uses}
-use Rattle.volume_model.specs.Sizes.{is_at, placed_record, keeps_place}
-use Rattle.stream_laws.specs.Places.{AreOnce}
-use Rattle.stream_laws.specs.Sharing.{runs_in}
-use Rattle.stream_laws.proofs.Placing.{lies}
-use Rattle.stream_laws.proofs.Sharing.{attr_uses, file_uses, uses-flat_map, volume_sum, stream_of_file, file_weight}
-use Rattle.stream_laws.proofs.Counting.{one_of_all}
-use Rattle.stream_laws.proofs.Rewriting.{volume_parts}
-use Rattle.stream_laws.proofs.Tabling.{used_part}
-use Rattle.tree_laws.proofs.Keeping.{rules_of}
+use Rattle.volume_mount.specs.state_model.declared.geometry.Geometry.{Geometry}
+use Rattle.volume_mount.specs.state_model.declared.geometry.MapRefusal.{MapRefusal}
+use Rattle.volume_mount.specs.state_model.declared.stream.Extents.{Extents}
+use Rattle.volume_mount.specs.state_model.declared.stream.Stream.{Stream}
+use Rattle.volume_mount.specs.state_model.declared.stream.Stream.TheVariants.{Placed}
+use Rattle.volume_mount.specs.state_model.Streams.{attribute_runs, block_at, stream_of}
+use Rattle.volume_mount.specs.state_model.Loads.{Slot, Used, slot_of, slot_by, slot_at, table_slot, judged, boot_block, data_stream, record_count, entries_of, named_attrs, all_attrs, whole_record}
+use Rattle.volume_mount.specs.volume_model.Volumes.{Volume, file_in, log_file}
+use Rattle.volume_mount.specs.volume_model.Owners.{volume_runs, uses}
+use Rattle.volume_mount.specs.volume_model.Sizes.{is_at, placed_record, keeps_place}
+use Rattle.volume_mount.specs.stream_laws.Places.{AreOnce}
+use Rattle.volume_mount.specs.stream_laws.Sharing.{runs_in}
+use Rattle.volume_mount.proofs.stream_laws.Placing.{lies}
+use Rattle.volume_mount.proofs.stream_laws.Sharing.{attr_uses, file_uses, uses-flat_map, volume_sum, stream_of_file, file_weight}
+use Rattle.volume_mount.proofs.stream_laws.Counting.{one_of_all}
+use Rattle.volume_mount.proofs.stream_laws.Rewriting.{volume_parts}
+use Rattle.volume_mount.proofs.stream_laws.Tabling.{used_part}
+use Rattle.plan_owners.proofs.tree_laws.Keeping.{rules_of}
 use Rattle.plan_owners.specs.States.{Stands}
 use Rattle.plan_owners.proofs.Standing.{slots, FileParts, file_parts, some_file, rule_4_parts}
 use Rattle.plan_owners.proofs.Outside.{unused_outside, once}

@@ -6,17 +6,17 @@ use Rattle.disk_model.specs.declared.block.Block.{Block}
 use Rattle.disk_model.specs.declared.block.BlockKind.TheVariants.{Plain}
 use Rattle.disk_model.specs.Sectors.{overlap}
 use Rattle.record_model.specs.declared.runs.Run.{Run}
-use Rattle.state_model.specs.declared.stream.Extents.{Extents}
-use Rattle.state_model.specs.declared.stream.Stream.TheVariants.{Placed}
-use Rattle.state_model.specs.Streams.{block_at, holds, lcn_in}
-use Rattle.volume_model.specs.Owners.{uses}
-use Rattle.stream_laws.specs.Places.{AreOnce}
-use Rattle.stream_laws.proofs.Placing.{lies, lies_in_cluster, one_place, is_used}
-use Rattle.log_page.specs.declared.places.LogPlace.{LogPlace}
-use Rattle.log_reading.specs.LogPages.{log_sector}
-use Rattle.log_reading.specs.Rings.{IsPageAt, IsRingPlace}
-use Rattle.image_open.specs.LogPlaces.{stream_place, LieAlike}
-use Rattle.image_open.proofs.Lying.{log_lies_in_stream}
+use Rattle.volume_mount.specs.state_model.declared.stream.Extents.{Extents}
+use Rattle.volume_mount.specs.state_model.declared.stream.Stream.TheVariants.{Placed}
+use Rattle.volume_mount.specs.state_model.Streams.{block_at, holds, lcn_in}
+use Rattle.volume_mount.specs.volume_model.Owners.{uses}
+use Rattle.volume_mount.specs.stream_laws.Places.{AreOnce}
+use Rattle.volume_mount.proofs.stream_laws.Placing.{lies, lies_in_cluster, one_place, is_used}
+use Rattle.log_laws.specs.log_page.declared.places.LogPlace.{LogPlace}
+use Rattle.volume_mount.specs.log_reading.LogPages.{log_sector}
+use Rattle.volume_mount.specs.log_reading.Rings.{IsPageAt, IsRingPlace}
+use Rattle.volume_mount.specs.image_open.LogPlaces.{stream_place, LieAlike}
+use Rattle.volume_mount.proofs.image_open.Lying.{log_lies_in_stream}
 
 abbrev sector : ℕ → Block
 sector s = record { first = s; kind = Plain }

@@ -17,23 +17,23 @@ use Rattle.record_model.proofs.Answering.{steps_from_ok, needs_from_ok}
 use Rattle.log_model.specs.declared.entry.Entry.{Entry}
 use Rattle.log_model.specs.Entries.{entry_size}
 use Rattle.log_model.specs.Logs.{first_misplaced, first_partial}
-use Rattle.log_page.specs.declared.places.LogPlace.{LogPlace}
-use Rattle.log_page.specs.declared.restart.Restart.{Restart}
-use Rattle.log_page.specs.Places.{page_bytes, first_page, lap_of, page_of, is_in_ring}
-use Rattle.log_page.specs.Restarts.{is_clean}
-use Rattle.log_page.specs.RecordPages.{Reading, no_reading, free_at, lsn_of, bytes_from}
-use Rattle.log_page.specs.LiveLogs.{live_log, start_in_page}
-use Rattle.log_page.proofs.Readings.{size_some}
-use Rattle.log_reading.specs.declared.fault.LogRefusal.TheVariants.{ForeignLog}
-use Rattle.log_reading.specs.declared.front.RestartFront.{RestartFront}
-use Rattle.log_reading.specs.Fronts.{front_in}
-use Rattle.log_reading.specs.LogPages.{sector_bytes, log_sector, log_bytes, page_in, initialised_bytes}
+use Rattle.log_laws.specs.log_page.declared.places.LogPlace.{LogPlace}
+use Rattle.log_laws.specs.log_page.declared.restart.Restart.{Restart}
+use Rattle.log_laws.specs.log_page.Places.{page_bytes, first_page, lap_of, page_of, is_in_ring}
+use Rattle.log_laws.specs.log_page.Restarts.{is_clean}
+use Rattle.log_laws.specs.log_page.RecordPages.{Reading, no_reading, free_at, lsn_of, bytes_from}
+use Rattle.log_laws.specs.log_page.LiveLogs.{live_log, start_in_page}
+use Rattle.log_laws.proofs.log_page.Readings.{size_some}
+use Rattle.volume_mount.specs.log_reading.declared.fault.LogRefusal.TheVariants.{ForeignLog}
+use Rattle.volume_mount.specs.log_reading.declared.front.RestartFront.{RestartFront}
+use Rattle.volume_mount.specs.log_reading.Fronts.{front_in}
+use Rattle.volume_mount.specs.log_reading.LogPages.{sector_bytes, log_sector, log_bytes, page_in, initialised_bytes}
 use Rattle.log_laws.specs.Tables.{reading, Stand, kth_page, kth_lsn, kth_start, IsLiveLog, entries_of}
 use Rattle.log_laws.proofs.Behind.{lsns_rise}
 use Rattle.log_laws.proofs.Logs.{read_table, outside}
-use Rattle.log_recovery.specs.LogStates.{LogState, FoundLog, all_or_refused, own_entries, entries_by, live_entries_in, whole_entries, lap_in, log_in, recovery_in}
-use Rattle.log_recovery.specs.Own.{is_own}
-use Rattle.log_recovery.specs.Writing.{is_barred, first_update, unless_foreign, to_write_in}
+use Rattle.volume_mount.specs.log_recovery.LogStates.{LogState, FoundLog, all_or_refused, own_entries, entries_by, live_entries_in, whole_entries, lap_in, log_in, recovery_in}
+use Rattle.volume_mount.specs.log_recovery.Own.{is_own}
+use Rattle.volume_mount.specs.log_recovery.Writing.{is_barred, first_update, unless_foreign, to_write_in}
 use Rattle.mount_laws.specs.Firsts.{Rise, EntriesRise}
 
 -- ---- entries between two LSNs

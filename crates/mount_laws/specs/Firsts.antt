@@ -2,16 +2,16 @@
 use Rattle.std.specs.Prelude.{◌≡◌, ℕ, suc, ◌*◌, ◌^◌, ◌<◌, ◌≤◌, ◌⊎◌, true, List, [], ◌∷◌, Some, Ok, ⊤}
 use Rattle.disk_model.specs.declared.block.Block.{Block}
 use Rattle.disk_model.specs.Content.{Content, HasSizes}
-use Rattle.volume_model.specs.Volumes.{Volume}
-use Rattle.stream_laws.specs.Owners.{IsLive}
+use Rattle.volume_mount.specs.volume_model.Volumes.{Volume}
+use Rattle.volume_mount.specs.stream_laws.Owners.{IsLive}
 use Rattle.log_model.specs.declared.entry.Entry.{Entry}
 use Rattle.log_model.specs.Logs.{updates_rival, is_in_grid, is_shadowed}
-use Rattle.log_page.specs.declared.places.LogPlace.{LogPlace}
-use Rattle.log_page.specs.Places.{page_bytes}
-use Rattle.log_recovery.specs.LogStates.{LogState}
-use Rattle.log_recovery.specs.Recovering.{shadow_lsn}
-use Rattle.log_recovery.specs.Writing.{to_write_in}
-use Rattle.volume_shadows.specs.Live.{least_live}
+use Rattle.log_laws.specs.log_page.declared.places.LogPlace.{LogPlace}
+use Rattle.log_laws.specs.log_page.Places.{page_bytes}
+use Rattle.volume_mount.specs.log_recovery.LogStates.{LogState}
+use Rattle.volume_mount.specs.log_recovery.Recovering.{shadow_lsn}
+use Rattle.volume_mount.specs.log_recovery.Writing.{to_write_in}
+use Rattle.volume_mount.specs.volume_shadows.Live.{least_live}
 
 -- the LSNs of the entries rise from this one on
 abbrev pub Rise : ℕ → List Entry → Type 0

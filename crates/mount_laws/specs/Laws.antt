@@ -3,15 +3,15 @@ use Rattle.std.specs.Prelude.{◌≡◌, ℕ, ◌*◌, ◌^◌, ◌<◌, true, L
 use Rattle.disk_model.specs.Content.{Content}
 use Rattle.record_model.specs.declared.attribute.Attr.{Attr}
 use Rattle.record_model.specs.Records.{Record}
-use Rattle.state_model.specs.declared.geometry.Geometry.{Geometry}
-use Rattle.state_model.specs.Loads.{data_stream}
-use Rattle.volume_model.specs.Volumes.{Volume, file_in, log_file}
+use Rattle.volume_mount.specs.state_model.declared.geometry.Geometry.{Geometry}
+use Rattle.volume_mount.specs.state_model.Loads.{data_stream}
+use Rattle.volume_mount.specs.volume_model.Volumes.{Volume, file_in, log_file}
 use Rattle.plan_owners.specs.States.{Stands}
-use Rattle.log_page.specs.declared.places.LogPlace.{LogPlace}
-use Rattle.log_reading.specs.LogPages.{log_sector}
-use Rattle.log_reading.specs.Rings.{IsRingPlace}
-use Rattle.image_open.specs.LogPlaces.{place_of_log, LieAlike}
-use Rattle.image_read.specs.Checks.{has_version}
+use Rattle.log_laws.specs.log_page.declared.places.LogPlace.{LogPlace}
+use Rattle.volume_mount.specs.log_reading.LogPages.{log_sector}
+use Rattle.volume_mount.specs.log_reading.Rings.{IsRingPlace}
+use Rattle.volume_mount.specs.image_open.LogPlaces.{place_of_log, LieAlike}
+use Rattle.volume_mount.specs.image_read.Checks.{has_version}
 use Rattle.volume_mount.specs.Boot.{KeepsBoot}
 use Rattle.volume_mount.specs.Mounts.{has_no_journal, has_pages, may_be_changed, MountedVolume, upper_in, mounted_in}
 

@@ -7,3 +7,7 @@
 mod laws;
 
 pub use laws::{entries_rise, least_is_first, mounted_by_record, mounted_on_ring, mounted_passes};
+pub use volume_mount::{
+    MountFault, Mounted, Names, OpeningToWrite, Refusal, VolumeMap, VolumeTree, boot_block,
+    file_stream, has_type, mount, owned_once,
+};

@@ -17,12 +17,12 @@ use Rattle.log_recovery.specs.Recovering.{shadow_lsn}
 use Rattle.log_recovery.specs.Writing.{is_spelled, is_put_out, is_barred, to_write_in}
 use Rattle.log_recovery.proofs.Ending.{not_written}
 use Rattle.store_model.proofs.Told.{true≢false}
-use Rattle.ring_laws.proofs.SeenDisks.{written_updated}
-use Rattle.txn_mount.specs.Contents.{stays_torn, mounted_content, ReadsLog, ReadsWell}
-use Rattle.txn_mount.proofs.Frames.{updated_none}
-use Rattle.txn_mount.proofs.Reading.{read_log, reads_well}
-use Rattle.volume_shadows.specs.Live.{least_live}
-use Rattle.volume_shadows.proofs.Listing.{none_said_live}
+use Rattle.safe_blocks.proofs.ring_laws.SeenDisks.{written_updated}
+use Rattle.stays_at_mount.specs.txn_mount.Contents.{stays_torn, mounted_content, ReadsLog, ReadsWell}
+use Rattle.stays_at_mount.proofs.txn_mount.Frames.{updated_none}
+use Rattle.stays_at_mount.proofs.txn_mount.Reading.{read_log, reads_well}
+use Rattle.safe_blocks.specs.volume_shadows.Live.{least_live}
+use Rattle.safe_blocks.proofs.volume_shadows.Listing.{none_said_live}
 
 -- the second body has the first one's bytes, and is torn at most where that is
 abbrev pub IsAlike : Body → Body → Type 0

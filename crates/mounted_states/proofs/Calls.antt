@@ -12,28 +12,28 @@ use Rattle.volume_model.specs.Volumes.{Volume}
 use Rattle.volume_model.specs.Owners.{uses}
 use Rattle.stream_laws.specs.Owners.{stream_kind}
 use Rattle.stream_laws.specs.Sharing.{StreamKey, stream_at, runs_in}
-use Rattle.plan_owners.specs.Agreeing.{log_key}
-use Rattle.plan_owners.specs.Kinds.{cluster_of, OwnsAs}
-use Rattle.plan_owners.proofs.ByKind.{in_grid, owned_as, one_kind}
-use Rattle.plan_model.proofs.Drafting.{per_is}
+use Rattle.safe_blocks.specs.plan_owners.Agreeing.{log_key}
+use Rattle.safe_blocks.specs.plan_owners.Kinds.{cluster_of, OwnsAs}
+use Rattle.safe_blocks.proofs.plan_owners.ByKind.{in_grid, owned_as, one_kind}
+use Rattle.safe_blocks.proofs.plan_model.Drafting.{per_is}
 use Rattle.log_page.specs.declared.places.LogPlace.{LogPlace}
 use Rattle.log_area.specs.Areas.{page_first}
 use Rattle.log_recovery.specs.declared.writing.ToWrite.{ToWrite}
 use Rattle.log_recovery.specs.Writing.{state_with}
-use Rattle.image_open.specs.Volumes.{boot_place}
-use Rattle.image_open.specs.Writing.{found_by}
+use Rattle.safe_blocks.specs.image_open.Volumes.{boot_place}
+use Rattle.safe_blocks.specs.image_open.Writing.{found_by}
 use Rattle.store_model.specs.Geometry.{SectorBytes}
 use Rattle.txn_model.specs.Values.{StoreFacts}
-use Rattle.txn_mount.specs.declared.fault.StoreFault.{StoreFault}
-use Rattle.txn_mount.specs.Laws.{MayMount}
-use Rattle.txn_mount.specs.Plans.{items_by}
-use Rattle.txn_mount.specs.Mounts.{ReadsAndWrites, IsMounted, StopsMount}
-use Rattle.found_stays.specs.Found.{AreOffLog, StaysOver}
-use Rattle.found_stays.specs.Laws.{LiesBeside}
-use Rattle.found_stays.proofs.Bearing.{none_stays, both_stay}
-use Rattle.found_stays.proofs.Lying.{all_off}
+use Rattle.stays_at_mount.specs.txn_mount.declared.fault.StoreFault.{StoreFault}
+use Rattle.stays_at_mount.specs.txn_mount.Laws.{MayMount}
+use Rattle.stays_at_mount.specs.txn_mount.Plans.{items_by}
+use Rattle.stays_at_mount.specs.txn_mount.Mounts.{ReadsAndWrites, IsMounted, StopsMount}
+use Rattle.resting_states.specs.found_stays.Found.{AreOffLog, StaysOver}
+use Rattle.resting_states.specs.found_stays.Laws.{LiesBeside}
+use Rattle.resting_states.proofs.found_stays.Bearing.{none_stays, both_stay}
+use Rattle.resting_states.proofs.found_stays.Lying.{all_off}
 use Rattle.stays_at_mount.specs.Mounts.{MountsStay}
-use Rattle.volume_mount.specs.Boot.{boot_key}
+use Rattle.safe_blocks.specs.volume_mount.Boot.{boot_key}
 use Rattle.safe_blocks.specs.Safe.{SuitsStore, MountsHoldStates}
 use Rattle.safe_blocks.proofs.Blocks.{owns_second}
 use Rattle.mounted_states.specs.Calls.{FoundLieOff, StoresKeepFound}

@@ -1,3 +1,5 @@
+pub use Rattle.resting_states.proofs.found_stays
+pub use Rattle.safe_blocks.proofs.image_open
 pub mod Opened
 pub mod PutOut
 pub mod Placed

@@ -17,15 +17,15 @@ use Rattle.log_page.specs.declared.places.LogPlace.{LogPlace}
 use Rattle.log_recovery.specs.LogStates.{LogState}
 use Rattle.log_recovery.specs.Recovering.{shadow_lsn}
 use Rattle.log_recovery.specs.Writing.{to_write_in}
-use Rattle.image_open.specs.declared.refusal.Refusal.{Refusal}
-use Rattle.image_open.specs.Errors.{boot_refusal, log_refusal, refused_as}
-use Rattle.image_open.specs.LogPlaces.{stream_place, place_of_log}
-use Rattle.image_open.specs.Volumes.{boot_place, boot_in, boot_on, sized_on, geometry_of, log_record, log_place, data_of}
-use Rattle.image_open.specs.Clusters.{clusters_in}
-use Rattle.image_open.specs.Writing.{OpenedToWrite, found_by, log_to_write, opened_at, opened_of, opened_with, opened_behind, opened_to_write_in}
-use Rattle.image_read.specs.Checks.{volume_on, has_version, tree_on}
-use Rattle.volume_shadows.specs.Live.{least_live}
-use Rattle.volume_mount.specs.Mounts.{Said, has_no_journal, has_pages, may_be_changed, unless_said, unshadowed, placed, ruled, settled, paged, unjournaled, tried, loaded_on, MountedVolume, upper_in, content_behind, mounted_as, mounted_by, mounted_in, mounted_of}
+use Rattle.safe_blocks.specs.image_open.declared.refusal.Refusal.{Refusal}
+use Rattle.safe_blocks.specs.image_open.Errors.{boot_refusal, log_refusal, refused_as}
+use Rattle.safe_blocks.specs.image_open.LogPlaces.{stream_place, place_of_log}
+use Rattle.safe_blocks.specs.image_open.Volumes.{boot_place, boot_in, boot_on, sized_on, geometry_of, log_record, log_place, data_of}
+use Rattle.safe_blocks.specs.image_open.Clusters.{clusters_in}
+use Rattle.safe_blocks.specs.image_open.Writing.{OpenedToWrite, found_by, log_to_write, opened_at, opened_of, opened_with, opened_behind, opened_to_write_in}
+use Rattle.safe_blocks.specs.image_read.Checks.{volume_on, has_version, tree_on}
+use Rattle.safe_blocks.specs.volume_shadows.Live.{least_live}
+use Rattle.safe_blocks.specs.volume_mount.Mounts.{Said, has_no_journal, has_pages, may_be_changed, unless_said, unshadowed, placed, ruled, settled, paged, unjournaled, tried, loaded_on, MountedVolume, upper_in, content_behind, mounted_as, mounted_by, mounted_in, mounted_of}
 
 unrefused : {A F : Type 0} (kind : F → Refusal) (read : Result A F) (x : A) → refused_as kind read ≡ Ok x → read ≡ Ok x
 unrefused kind (Ok y) x e = cc

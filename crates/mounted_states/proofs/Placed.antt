@@ -24,8 +24,8 @@ use Rattle.log_reading.specs.LogPages.{page_in}
 use Rattle.log_recovery.specs.LogStates.{own_entries, entries_by, live_entries_in}
 use Rattle.store_model.specs.Logs.{has_update}
 use Rattle.store_model.proofs.Told.{true≢false}
-use Rattle.ring_laws.proofs.SeenDisks.{written_updated}
-use Rattle.txn_mount.proofs.Reading.{ok_then, all_ok}
+use Rattle.safe_blocks.proofs.ring_laws.SeenDisks.{written_updated}
+use Rattle.stays_at_mount.proofs.txn_mount.Reading.{ok_then, all_ok}
 
 -- ---- none is misplaced
 

@@ -13,7 +13,7 @@ use Rattle.log_recovery.specs.declared.found.RecoveredBlock.{RecoveredBlock}
 use Rattle.log_recovery.specs.LogStates.{LogState}
 use Rattle.log_recovery.specs.Recovering.{held_body}
 use Rattle.log_recovery.specs.Writing.{is_put_out, places_where}
-use Rattle.txn_mount.specs.Contents.{stays_torn}
+use Rattle.stays_at_mount.specs.txn_mount.Contents.{stays_torn}
 use Rattle.mounted_states.specs.Shown.{AllPutOut}
 
 -- ---- as many places as items

@@ -10,15 +10,15 @@ use Rattle.volume_model.specs.Owners.{uses}
 use Rattle.volume_state.specs.Journals.{journal_of, journal_of_file, some_journal, file_or_none, journal_file}
 use Rattle.volume_state.specs.Trees.{tree_of, tree_with, volume_journal}
 use Rattle.stream_laws.specs.Sharing.{stream_at, runs_in}
-use Rattle.plan_owners.specs.Agreeing.{log_key}
+use Rattle.safe_blocks.specs.plan_owners.Agreeing.{log_key}
 use Rattle.log_page.specs.declared.places.Extent.{Extent}
 use Rattle.log_page.specs.declared.places.LogPlace.{LogPlace}
 use Rattle.log_reading.specs.LogPages.{sector_in, sector_below, log_sector}
 use Rattle.log_reading.specs.Rings.{IsPageAt, IsRingPlace}
 use Rattle.log_area.specs.Areas.{page_first}
-use Rattle.image_open.specs.declared.refusal.Refusal.TheVariants.{Unbuilt}
-use Rattle.volume_mount.specs.Mounts.{journal_number, has_no_journal}
-use Rattle.spares_at_mount.specs.Mounts.{LiesInLog}
+use Rattle.safe_blocks.specs.image_open.declared.refusal.Refusal.TheVariants.{Unbuilt}
+use Rattle.safe_blocks.specs.volume_mount.Mounts.{journal_number, has_no_journal}
+use Rattle.safe_blocks.specs.spares_at_mount.Mounts.{LiesInLog}
 use Rattle.mounted_states.specs.Ready.{RunsLieInLog}
 
 -- ---- no journal

@@ -14,34 +14,34 @@ use Rattle.sector_device.specs.Moments.{Changes}
 use Rattle.device_view.specs.Sizes.{sized_sectors}
 use Rattle.volume_model.specs.Volumes.{Volume, count_of, record_bits, cluster_bits}
 use Rattle.volume_model.specs.Indexes.{void_block}
-use Rattle.volume_map.specs.declared.head.Head.{Head}
-use Rattle.volume_map.specs.Heads.{head_of, head_at, heads_of}
-use Rattle.map_change.specs.Parts.{MapParts}
+use Rattle.safe_blocks.specs.volume_map.declared.head.Head.{Head}
+use Rattle.safe_blocks.specs.volume_map.Heads.{head_of, head_at, heads_of}
+use Rattle.safe_blocks.specs.map_change.Parts.{MapParts}
 use Rattle.stream_laws.proofs.Changing.{itself}
-use Rattle.plan_owners.specs.States.{Stands}
-use Rattle.plan_owners.specs.Agreeing.{IsJudged}
-use Rattle.state_blocks.specs.Needing.{IsNeeded, AgreeOnNeeded, NeededIsAll}
-use Rattle.state_blocks.proofs.Needing.{listed_judged}
+use Rattle.safe_blocks.specs.plan_owners.States.{Stands}
+use Rattle.safe_blocks.specs.plan_owners.Agreeing.{IsJudged}
+use Rattle.safe_blocks.specs.state_blocks.Needing.{IsNeeded, AgreeOnNeeded, NeededIsAll}
+use Rattle.safe_blocks.proofs.state_blocks.Needing.{listed_judged}
 use Rattle.log_model.specs.Logs.{is_shadowed, recovered}
 use Rattle.log_page.specs.declared.places.LogPlace.{LogPlace}
 use Rattle.log_recovery.specs.Own.{is_in_log}
 use Rattle.log_recovery.specs.Own.{is_own as is_own_block}
 use Rattle.log_recovery.specs.Writing.{to_write_in}
-use Rattle.image_open.specs.Writing.{found_by}
-use Rattle.image_open.proofs.Alike.{to_write_alike}
-use Rattle.volume_mount.specs.Mounts.{MountedVolume, mounted_in}
+use Rattle.safe_blocks.specs.image_open.Writing.{found_by}
+use Rattle.safe_blocks.proofs.image_open.Alike.{to_write_alike}
+use Rattle.safe_blocks.specs.volume_mount.Mounts.{MountedVolume, mounted_in}
 use Rattle.store_model.specs.Geometry.{SectorBytes}
 use Rattle.store_model.specs.Volumes.{is_known}
 use Rattle.txn_model.specs.Values.{StoreFacts, is_own, own_of}
-use Rattle.txn_laws.specs.Laws.{WindowsTell}
-use Rattle.txn_laws.specs.Mounting.{HasMounted}
-use Rattle.txn_laws.specs.Windows.{IsShown}
-use Rattle.txn_core.specs.Views.{present_on}
-use Rattle.txn_mount.specs.Contents.{mounted_content, ReadsLog}
-use Rattle.txn_mount.specs.Mounts.{ReadsOn}
-use Rattle.txn_mount.proofs.Reading.{read_log}
-use Rattle.spares_at_mount.proofs.Mounting.{judged_apart}
-use Rattle.member_states.proofs.Recovering.{void_is}
+use Rattle.safe_blocks.specs.txn_laws.Laws.{WindowsTell}
+use Rattle.safe_blocks.specs.txn_laws.Mounting.{HasMounted}
+use Rattle.safe_blocks.specs.txn_laws.Windows.{IsShown}
+use Rattle.safe_blocks.specs.txn_core.Views.{present_on}
+use Rattle.stays_at_mount.specs.txn_mount.Contents.{mounted_content, ReadsLog}
+use Rattle.stays_at_mount.specs.txn_mount.Mounts.{ReadsOn}
+use Rattle.stays_at_mount.proofs.txn_mount.Reading.{read_log}
+use Rattle.safe_blocks.proofs.spares_at_mount.Mounting.{judged_apart}
+use Rattle.safe_blocks.proofs.member_states.Recovering.{void_is}
 use Rattle.resting_states.proofs.Finding.{found_body}
 use Rattle.safe_blocks.specs.Safe.{SuitsStore, NeededAreSafe, IsStoreOf, MountsHoldStates}
 use Rattle.mounted_states.specs.Shown.{AreBothMounted, ShowsMounted, StoresShowMounted}

@@ -16,23 +16,23 @@ use Rattle.record_model.proofs.Answering.{steps_from_ok}
 use Rattle.state_model.specs.declared.geometry.Geometry.{Geometry}
 use Rattle.volume_model.specs.Volumes.{Volume, cluster_bits, upper_of}
 use Rattle.volume_state.specs.Trees.{tree_of}
-use Rattle.map_change.specs.Parts.{MapParts, parts_of}
-use Rattle.plan_owners.specs.States.{Stands}
-use Rattle.plan_spares.specs.Plans.{HasOwnLists}
-use Rattle.state_blocks.specs.Needing.{IsNeeded, NeededIsAll}
-use Rattle.image_open.specs.Writing.{found_by}
-use Rattle.image_open.specs.declared.refusal.Refusal.{Refusal}
-use Rattle.volume_mount.specs.Boot.{keeps_boot}
-use Rattle.volume_mount.specs.Welcome.{IsWelcome}
-use Rattle.volume_mount.specs.Mounts.{pages_lie, has_single_lists, has_no_journal, changeable, MountedVolume, tree_in, mounted_in}
-use Rattle.mount_laws.specs.Laws.{LiesByRecord, MountedByRecord, PassesMount, MountedPasses}
+use Rattle.safe_blocks.specs.map_change.Parts.{MapParts, parts_of}
+use Rattle.safe_blocks.specs.plan_owners.States.{Stands}
+use Rattle.safe_blocks.specs.plan_spares.Plans.{HasOwnLists}
+use Rattle.safe_blocks.specs.state_blocks.Needing.{IsNeeded, NeededIsAll}
+use Rattle.safe_blocks.specs.image_open.Writing.{found_by}
+use Rattle.safe_blocks.specs.image_open.declared.refusal.Refusal.{Refusal}
+use Rattle.safe_blocks.specs.volume_mount.Boot.{keeps_boot}
+use Rattle.safe_blocks.specs.volume_mount.Welcome.{IsWelcome}
+use Rattle.safe_blocks.specs.volume_mount.Mounts.{pages_lie, has_single_lists, has_no_journal, changeable, MountedVolume, tree_in, mounted_in}
+use Rattle.safe_blocks.specs.mount_laws.Laws.{LiesByRecord, MountedByRecord, PassesMount, MountedPasses}
 use Rattle.store_model.specs.Volumes.{is_known}
 use Rattle.txn_model.specs.Values.{StoreFacts, is_own, own_of}
-use Rattle.txn_laws.specs.Laws.{WindowsTell}
+use Rattle.safe_blocks.specs.txn_laws.Laws.{WindowsTell}
 use Rattle.txn_state.specs.States.{StateOf, facts_of}
-use Rattle.txn_core.specs.Views.{present_on}
-use Rattle.state_store.specs.Volumes.{geometry_of, IsStateOf, SparesState}
-use Rattle.spares_at_mount.specs.Mounts.{LiesInLog, StoresSpare}
+use Rattle.safe_blocks.specs.txn_core.Views.{present_on}
+use Rattle.safe_blocks.specs.state_store.Volumes.{geometry_of, IsStateOf, SparesState}
+use Rattle.safe_blocks.specs.spares_at_mount.Mounts.{LiesInLog, StoresSpare}
 use Rattle.resting_states.specs.Starts.{BeginsAtRest}
 use Rattle.safe_blocks.specs.Safe.{SuitsStore, NeededAreSafe, IsStoreOf, MountsHoldStates}
 use Rattle.mounted_states.specs.Shown.{ShowsMounted}

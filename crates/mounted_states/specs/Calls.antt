@@ -5,11 +5,11 @@ use Rattle.disk_model.specs.Content.{Content}
 use Rattle.sector_device.specs.Moments.{Changes}
 use Rattle.log_page.specs.declared.places.LogPlace.{LogPlace}
 use Rattle.store_model.specs.Geometry.{SectorBytes}
-use Rattle.volume_mount.specs.Mounts.{MountedVolume, mounted_in}
+use Rattle.safe_blocks.specs.volume_mount.Mounts.{MountedVolume, mounted_in}
 use Rattle.txn_model.specs.Values.{StoreFacts}
-use Rattle.txn_mount.specs.declared.fault.StoreFault.{StoreFault}
-use Rattle.txn_mount.specs.Mounts.{IsMounted, StopsMount}
-use Rattle.found_stays.specs.Found.{AreOffLog, StaysOver}
+use Rattle.stays_at_mount.specs.txn_mount.declared.fault.StoreFault.{StoreFault}
+use Rattle.stays_at_mount.specs.txn_mount.Mounts.{IsMounted, StopsMount}
+use Rattle.resting_states.specs.found_stays.Found.{AreOffLog, StaysOver}
 use Rattle.safe_blocks.specs.Safe.{IsStoreOf}
 
 -- the blocks by which the log of a mounted volume is found lie off it

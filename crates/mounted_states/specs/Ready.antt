@@ -7,14 +7,14 @@ use Rattle.volume_model.specs.Volumes.{Volume}
 use Rattle.volume_model.specs.Owners.{uses}
 use Rattle.volume_state.specs.Trees.{tree_of}
 use Rattle.stream_laws.specs.Sharing.{stream_at, runs_in}
-use Rattle.map_change.specs.Parts.{MapParts}
-use Rattle.plan_owners.specs.Agreeing.{log_key}
+use Rattle.safe_blocks.specs.map_change.Parts.{MapParts}
+use Rattle.safe_blocks.specs.plan_owners.Agreeing.{log_key}
 use Rattle.log_page.specs.declared.places.Extent.{Extent}
 use Rattle.log_page.specs.declared.places.LogPlace.{LogPlace}
-use Rattle.volume_mount.specs.Mounts.{MountedVolume}
-use Rattle.volume_mount.specs.Welcome.{IsWelcome}
+use Rattle.safe_blocks.specs.volume_mount.Mounts.{MountedVolume}
+use Rattle.safe_blocks.specs.volume_mount.Welcome.{IsWelcome}
 use Rattle.txn_state.specs.States.{StateOf, facts_of}
-use Rattle.txn_core.specs.Views.{present_on}
+use Rattle.safe_blocks.specs.txn_core.Views.{present_on}
 use Rattle.mounted_states.specs.Starts.{IsMountedWith}
 
 -- each sector of each run of the log lies in a cluster that the volume's log has

@@ -8,21 +8,21 @@ use Rattle.sector_device.specs.Moments.{Changes}
 use Rattle.sector_device.specs.Sectors.{IsDiskOf}
 use Rattle.volume_model.specs.Volumes.{upper_of}
 use Rattle.volume_state.specs.Trees.{tree_of}
-use Rattle.map_change.specs.Parts.{parts_of}
-use Rattle.plan_owners.specs.States.{Stands}
-use Rattle.state_blocks.specs.Needing.{IsNeeded, AgreeOnNeeded}
+use Rattle.safe_blocks.specs.map_change.Parts.{parts_of}
+use Rattle.safe_blocks.specs.plan_owners.States.{Stands}
+use Rattle.safe_blocks.specs.state_blocks.Needing.{IsNeeded, AgreeOnNeeded}
 use Rattle.log_recovery.specs.declared.writing.ToWrite.{ToWrite}
 use Rattle.log_recovery.specs.LogStates.{LogState}
 use Rattle.log_recovery.specs.Writing.{IsToWrite}
-use Rattle.image_open.specs.LogPlaces.{LieAlike}
-use Rattle.image_open.specs.Writing.{found_by}
-use Rattle.volume_mount.specs.Mounts.{MountedVolume, upper_in, tree_in, mounted_of}
+use Rattle.safe_blocks.specs.image_open.LogPlaces.{LieAlike}
+use Rattle.safe_blocks.specs.image_open.Writing.{found_by}
+use Rattle.safe_blocks.specs.volume_mount.Mounts.{MountedVolume, upper_in, tree_in, mounted_of}
 use Rattle.txn_model.specs.Values.{StoreFacts}
 use Rattle.txn_model.specs.Calls.{first_facts}
-use Rattle.txn_core.specs.Views.{present_on}
-use Rattle.txn_mount.specs.Contents.{stays_torn}
-use Rattle.txn_mount.specs.Mounts.{ShowsRecovered, ShowsDisk}
-use Rattle.found_stays.specs.Found.{StaysFirst}
+use Rattle.safe_blocks.specs.txn_core.Views.{present_on}
+use Rattle.stays_at_mount.specs.txn_mount.Contents.{stays_torn}
+use Rattle.stays_at_mount.specs.txn_mount.Mounts.{ShowsRecovered, ShowsDisk}
+use Rattle.resting_states.specs.found_stays.Found.{StaysFirst}
 
 -- No block from which the volume is read stays torn, as a torn block does that has the recovered bytes already where no bytes of a disk show these untorn.
 abbrev pub NoneStaysTorn : Content → MountedVolume → Type 0

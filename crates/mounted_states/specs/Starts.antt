@@ -3,15 +3,15 @@ use Rattle.std.specs.Prelude.{◌≡◌, ℕ, ◌≤◌, List, length, Some}
 use Rattle.disk_model.specs.Sectors.{sector_of}
 use Rattle.sector_device.specs.Moments.{Changes}
 use Rattle.log_reading.specs.Rings.{IsRingPlace}
-use Rattle.map_change.specs.Parts.{MapParts, parts_of}
-use Rattle.plan_spares.specs.Plans.{HasOwnLists}
-use Rattle.image_open.specs.LogPlaces.{LieAlike}
-use Rattle.image_open.specs.Writing.{found_by}
-use Rattle.volume_mount.specs.Mounts.{MountedVolume, upper_in}
+use Rattle.safe_blocks.specs.map_change.Parts.{MapParts, parts_of}
+use Rattle.safe_blocks.specs.plan_spares.Plans.{HasOwnLists}
+use Rattle.safe_blocks.specs.image_open.LogPlaces.{LieAlike}
+use Rattle.safe_blocks.specs.image_open.Writing.{found_by}
+use Rattle.safe_blocks.specs.volume_mount.Mounts.{MountedVolume, upper_in}
 use Rattle.txn_state.specs.States.{StateOf, facts_of, IsStore}
-use Rattle.txn_core.specs.Views.{present_on}
-use Rattle.state_store.specs.Volumes.{geometry_of, HoldsState}
-use Rattle.spares_at_mount.specs.Mounts.{LiesInLog}
+use Rattle.safe_blocks.specs.txn_core.Views.{present_on}
+use Rattle.safe_blocks.specs.state_store.Volumes.{geometry_of, HoldsState}
+use Rattle.safe_blocks.specs.spares_at_mount.Mounts.{LiesInLog}
 use Rattle.resting_states.specs.Starts.{BeginsAtRest}
 use Rattle.mounted_states.specs.Shown.{AreBothMounted}
 

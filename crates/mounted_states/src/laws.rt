@@ -4,13 +4,12 @@ ghost use Rattle.mounted_states.specs.Ready.{StoresMayBeChanged};
 ghost use Rattle.mounted_states.specs.Shown.{AllPutOut, StoresShowMounted};
 ghost use Rattle.mounted_states.specs.Starts.{StoresBegin};
 
-use mount_laws::{mounted_by_record, mounted_passes};
-use safe_blocks::{mounts_hold_states, needed_are_safe};
+use safe_blocks::{
+    mounted_by_record, mounted_passes, mounts_hold_states, needed_are_safe, needed_is_all,
+    stores_spare, windows_tell,
+};
 use sector_device::Device;
-use spares_at_mount::stores_spare;
-use state_blocks::needed_is_all;
 use stays_at_mount::mounts_stay;
-use txn_laws::windows_tell;
 
 /// Law: the blocks by which the log of a mounted volume is found lie off it.
 pub fn found_lie_off()

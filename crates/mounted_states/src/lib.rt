@@ -10,3 +10,7 @@ pub use laws::{
     all_put_out, found_lie_off, stores_begin, stores_keep_found, stores_may_be_changed,
     stores_show_mounted,
 };
+pub use safe_blocks::{
+    LiveMap, MountFault, Mounted, Names, OpeningToWrite, Refusal, VolumeMap, boot_block,
+    file_stream, has_type, mount, mounts_hold_states,
+};

@@ -14,7 +14,7 @@ use Rattle.record_model.specs.declared.runs.Run.{Run}
 use Rattle.record_model.specs.Constants.{attribute_list, data_type}
 use Rattle.record_model.specs.Records.{Record, record_at, shaped_at, record_spelling, has_lawful_values}
 use Rattle.record_model.proofs.Shapes.{is_shaped}
-use Rattle.record_writer.proofs.Again.{read_again}
+use Rattle.written_values.proofs.record_writer.Again.{read_again}
 use Rattle.bit_set.specs.Bits.{bit}
 use Rattle.file_tree.specs.declared.node.Node.{Node}
 use Rattle.file_tree.specs.declared.node.Kind.TheVariants.{File}
@@ -29,7 +29,7 @@ use Rattle.state_model.specs.Streams.{block_at}
 use Rattle.volume_model.specs.Volumes.{Volume, volume_of, count_of, file_in, bytes_or, cluster_bits}
 use Rattle.volume_model.specs.Nodes.{some_node, node_at}
 use Rattle.volume_model.specs.Owners.{volume_runs, uses}
-use Rattle.volume_state.specs.Trees.{tree_of}
+use Rattle.written_values.specs.volume_state.Trees.{tree_of}
 use Rattle.stream_laws.specs.Frames.{IsRead, SameBytesInSome}
 use Rattle.stream_laws.specs.Owners.{stream_kind, Owns}
 use Rattle.stream_laws.specs.Replacing.{FileEdit}
@@ -45,34 +45,34 @@ use Rattle.stream_laws.proofs.Rewriting.{volume_parts, volume_now, goes_on_itsel
 use Rattle.stream_laws.proofs.Tabling.{inside_list, table_runs, read_in_use}
 use Rattle.tree_model.specs.declared.script.Op.{Op}
 use Rattle.tree_model.specs.Effects.{changed_node, file_after}
-use Rattle.plan_owners.specs.States.{IsOwnRecord}
-use Rattle.plan_owners.proofs.ByKind.{marked_if_used}
-use Rattle.plan_owners.proofs.Outside.{once, unused_outside}
-use Rattle.plan_owners.proofs.Standing.{some_file, begins}
-use Rattle.plan_owners.proofs.Unnamed.{unnamed}
+use Rattle.written_values.specs.plan_owners.States.{IsOwnRecord}
+use Rattle.written_values.proofs.plan_owners.ByKind.{marked_if_used}
+use Rattle.written_values.proofs.plan_owners.Outside.{once, unused_outside}
+use Rattle.written_values.proofs.plan_owners.Standing.{some_file, begins}
+use Rattle.written_values.proofs.plan_owners.Unnamed.{unnamed}
 use Rattle.plan_bodies.specs.Bodies.{NewBody, content_with, body_in, body_or}
 use Rattle.plan_bodies.proofs.Putting.{block_itself, body_put}
 use Rattle.plan_draft.specs.declared.touched.Touched.{Touched}
 use Rattle.plan_draft.specs.Touching.{bodies_of}
 use Rattle.plan_draft.proofs.Puts.{bodies_touch}
 use Rattle.plan_draft.proofs.Same.{all_same, one_in_order}
-use Rattle.plan_model.specs.Informed.{with_record}
-use Rattle.plan_model.proofs.Drafting.{per_is}
-use Rattle.plan_model.proofs.OneRecord.{OwnRecord, own_record, uncut, file_slot, slot_begins}
-use Rattle.plan_model.proofs.Stepping.{tree_nodes}
-use Rattle.draft_records.specs.Records.{record_block, is_past, has_mirror, written_record, written_bytes, fits_room, touch_if, touch_record}
-use Rattle.draft_records.proofs.Written.{fits_written, room_full}
-use Rattle.plan_edits.specs.Edits.{bitmap_key}
-use Rattle.plan_edits.proofs.Editing.{some_of, used_block}
-use Rattle.plan_changes.proofs.Showing.{files_are}
-use Rattle.step_model.specs.Placing.{Growth, runs_after}
-use Rattle.step_model.specs.Streams.{data_of}
+use Rattle.written_values.specs.plan_model.Informed.{with_record}
+use Rattle.written_values.proofs.plan_model.Drafting.{per_is}
+use Rattle.written_values.proofs.plan_model.OneRecord.{OwnRecord, own_record, uncut, file_slot, slot_begins}
+use Rattle.written_values.proofs.plan_model.Stepping.{tree_nodes}
+use Rattle.written_values.specs.draft_records.Records.{record_block, is_past, has_mirror, written_record, written_bytes, fits_room, touch_if, touch_record}
+use Rattle.written_values.proofs.draft_records.Written.{fits_written, room_full}
+use Rattle.written_values.specs.plan_edits.Edits.{bitmap_key}
+use Rattle.written_values.proofs.plan_edits.Editing.{some_of, used_block}
+use Rattle.written_values.proofs.plan_changes.Showing.{files_are}
+use Rattle.written_values.specs.step_model.Placing.{Growth, runs_after}
+use Rattle.written_values.specs.step_model.Streams.{data_of}
 use Rattle.made_data.specs.Laws.{MadeIsCounted}
 use Rattle.made_data.specs.Made.{has_data, made_record, record_with_data}
-use Rattle.data_plan.specs.declared.change.DataChange.{DataChange}
-use Rattle.data_plan.specs.Changes.{growth_of}
-use Rattle.file_puts.specs.declared.streams.VolumeStreams.{VolumeStreams}
-use Rattle.file_puts.specs.Written.{WritesBy, HasWritten}
+use Rattle.made_data.specs.data_plan.declared.change.DataChange.{DataChange}
+use Rattle.made_data.specs.data_plan.Changes.{growth_of}
+use Rattle.written_values.specs.file_puts.declared.streams.VolumeStreams.{VolumeStreams}
+use Rattle.written_values.specs.file_puts.Written.{WritesBy, HasWritten}
 use Rattle.written_values.proofs.Growths.{growth_is}
 use Rattle.written_values.proofs.Owning.{IsOwned, is_owned}
 use Rattle.written_values.proofs.Sparing.{elsewhere}

@@ -5,12 +5,12 @@ use Rattle.std.proofs.lemmas.Bool.{cases_Bool, eqb-true}
 use Rattle.std.proofs.lemmas.List.Sums.{sum_by-cons, sum_by-insert}
 use Rattle.record_model.specs.declared.attribute.Attr.{Attr}
 use Rattle.record_model.specs.Constants.{attribute_list, data_type, standard_information}
-use Rattle.record_writer.specs.Normal.{normal}
+use Rattle.written_values.specs.record_writer.Normal.{normal}
 use Rattle.state_model.specs.Streams.{is_attribute_of}
 use Rattle.stream_laws.proofs.Sharing.{attribute_kind}
-use Rattle.plan_model.specs.Informed.{is_info}
-use Rattle.record_streams.specs.Placing.{without_stream, with_stream}
-use Rattle.record_times.specs.Times.{timed_attr, timed_attrs}
+use Rattle.written_values.specs.plan_model.Informed.{is_info}
+use Rattle.written_values.specs.record_streams.Placing.{without_stream, with_stream}
+use Rattle.written_values.specs.record_times.Times.{timed_attr, timed_attrs}
 use Rattle.names_stay.specs.Lists.{is_list, lists_of}
 
 -- how many attribute lists one attribute is

@@ -19,19 +19,19 @@ use Rattle.tree_model.specs.Needs.{shrinks}
 use Rattle.plan_bodies.specs.Bodies.{NewBody}
 use Rattle.plan_draft.specs.declared.touched.Touched.{Touched}
 use Rattle.plan_draft.specs.Touching.{block_key, bodies_of, touch}
-use Rattle.draft_streams.specs.Parts.{touch_part, touch_sectors, touch_bytes, offset_in, bytes_in, first_sector, sector_count}
-use Rattle.draft_bits.specs.Filling.{first_past}
-use Rattle.draft_runs.specs.Clusters.{PutsClusters, PutsRuns}
-use Rattle.draft_records.specs.Records.{record_block, is_past, has_mirror, touch_if, touch_record}
-use Rattle.resized_streams.specs.declared.resized.Resized.{Resized}
-use Rattle.draft_resized.specs.Resized.{resized_bytes, with_file, PutsResized}
-use Rattle.draft_resized.specs.Moved.{PutsMoved}
-use Rattle.step_model.specs.Placing.{Growth, runs_after}
-use Rattle.data_plan.specs.declared.change.DataChange.{DataChange}
-use Rattle.data_plan.specs.declared.change.DataChange.TheVariants as change
-use Rattle.data_plan.specs.Changes.{IsChange}
-use Rattle.file_puts.specs.declared.streams.VolumeStreams.{VolumeStreams}
-use Rattle.file_puts.specs.Puts.{PutsFileRecord, PutsSizes, PutsSized, PutsChange}
+use Rattle.written_values.specs.draft_streams.Parts.{touch_part, touch_sectors, touch_bytes, offset_in, bytes_in, first_sector, sector_count}
+use Rattle.written_values.specs.draft_bits.Filling.{first_past}
+use Rattle.written_values.specs.draft_runs.Clusters.{PutsClusters, PutsRuns}
+use Rattle.written_values.specs.draft_records.Records.{record_block, is_past, has_mirror, touch_if, touch_record}
+use Rattle.written_values.specs.resized_streams.declared.resized.Resized.{Resized}
+use Rattle.written_values.specs.draft_resized.Resized.{resized_bytes, with_file, PutsResized}
+use Rattle.written_values.specs.draft_resized.Moved.{PutsMoved}
+use Rattle.written_values.specs.step_model.Placing.{Growth, runs_after}
+use Rattle.made_data.specs.data_plan.declared.change.DataChange.{DataChange}
+use Rattle.made_data.specs.data_plan.declared.change.DataChange.TheVariants as change
+use Rattle.made_data.specs.data_plan.Changes.{IsChange}
+use Rattle.written_values.specs.file_puts.declared.streams.VolumeStreams.{VolumeStreams}
+use Rattle.written_values.specs.file_puts.Puts.{PutsFileRecord, PutsSizes, PutsSized, PutsChange}
 
 -- a block of the file's record, of the bitmap, or of the file's data in these runs
 abbrev pub GoesTo : VolumeStreams → ℕ → List Run → Block → Type 0

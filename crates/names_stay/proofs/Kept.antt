@@ -12,7 +12,7 @@ use Rattle.record_model.specs.declared.attribute.OwnForm.TheVariants.{Resident, 
 use Rattle.record_model.specs.declared.attribute.Attr.{Attr}
 use Rattle.record_model.specs.Constants.{file_name, data_type, standard_information}
 use Rattle.record_model.specs.Records.{Record}
-use Rattle.record_writer.specs.Normal.{normal, normal_form}
+use Rattle.written_values.specs.record_writer.Normal.{normal, normal_form}
 use Rattle.file_tree.specs.declared.link.Link.{Link}
 use Rattle.file_tree.specs.declared.node.Node.{Node}
 use Rattle.state_model.specs.declared.stream.Extents.{Extents}
@@ -22,23 +22,23 @@ use Rattle.tree_model.specs.declared.script.Op.{Op}
 use Rattle.tree_model.specs.Needs.{shrinks, size_after}
 use Rattle.tree_model.specs.Effects.{valid_after, bytes_after}
 use Rattle.stream_laws.proofs.Sharing.{attribute_kind}
-use Rattle.plan_model.specs.Informed.{is_info}
+use Rattle.written_values.specs.plan_model.Informed.{is_info}
 use Rattle.plan_draft.specs.declared.touched.Touched.{Touched}
-use Rattle.record_streams.specs.Placing.{without_stream, with_stream, placed_attr, placed_first, placed_record}
-use Rattle.record_streams.proofs.Streams.{first_passes}
-use Rattle.record_values.specs.Values.{valued_attr, valued_first, valued_record}
-use Rattle.record_times.specs.Times.{timed_attr, timed_attrs, place_of_type, new_id as new_info_id, new_info, with_next_id as with_info_id, timed_record}
-use Rattle.draft_records.specs.Records.{written_record}
-use Rattle.resized_streams.specs.declared.resized.Resized.{Resized}
-use Rattle.resized_streams.specs.Resizing.{unplaced, lengthened, shortened, with_sizes}
-use Rattle.step_model.specs.Placing.{Growth}
+use Rattle.written_values.specs.record_streams.Placing.{without_stream, with_stream, placed_attr, placed_first, placed_record}
+use Rattle.written_values.proofs.record_streams.Streams.{first_passes}
+use Rattle.written_values.specs.record_values.Values.{valued_attr, valued_first, valued_record}
+use Rattle.written_values.specs.record_times.Times.{timed_attr, timed_attrs, place_of_type, new_id as new_info_id, new_info, with_next_id as with_info_id, timed_record}
+use Rattle.written_values.specs.draft_records.Records.{written_record}
+use Rattle.written_values.specs.resized_streams.declared.resized.Resized.{Resized}
+use Rattle.written_values.specs.resized_streams.Resizing.{unplaced, lengthened, shortened, with_sizes}
+use Rattle.written_values.specs.step_model.Placing.{Growth}
 use Rattle.made_data.specs.Ids.{place_of, new_id, with_id}
 use Rattle.made_data.specs.Made.{has_data, empty_data, with_empty_data, made_record, record_with_data}
-use Rattle.data_plan.specs.declared.change.DataChange.{DataChange}
-use Rattle.data_plan.specs.declared.change.DataChange.TheVariants as change
-use Rattle.data_plan.specs.Changes.{IsChange}
-use Rattle.file_puts.specs.declared.streams.VolumeStreams.{VolumeStreams}
-use Rattle.file_puts.specs.Puts.{with_bytes, PutsFileRecord, PutsTimes, PutsSizes, PutsSized, PutsChange}
+use Rattle.made_data.specs.data_plan.declared.change.DataChange.{DataChange}
+use Rattle.made_data.specs.data_plan.declared.change.DataChange.TheVariants as change
+use Rattle.made_data.specs.data_plan.Changes.{IsChange}
+use Rattle.written_values.specs.file_puts.declared.streams.VolumeStreams.{VolumeStreams}
+use Rattle.written_values.specs.file_puts.Puts.{with_bytes, PutsFileRecord, PutsTimes, PutsSizes, PutsSized, PutsChange}
 use Rattle.names_stay.specs.Lists.{lists_of}
 use Rattle.names_stay.proofs.Counted.{of_other, timed, with_data as data_lists, inserted as inserted_lists, each_normal as normal_lists}
 

@@ -18,10 +18,10 @@ use Rattle.stream_laws.specs.Sharing.{StreamKey, stream_at, runs_in}
 use Rattle.stream_laws.specs.Volumes.{base_record}
 use Rattle.stream_laws.proofs.Counting.{one_of_all, two_of_all, filter_of_all, filters_of_all}
 use Rattle.stream_laws.proofs.Sharing.{attr_uses, file_uses, uses-flat_map, volume_sum, stream_uses, attribute_kind, stream_of_file, file_weight}
-use Rattle.plan_owners.specs.States.{Stands}
-use Rattle.plan_owners.proofs.Standing.{slots, joined_at, listed_file}
-use Rattle.plan_owners.proofs.Outside.{once}
-use Rattle.plan_owners.proofs.Unnamed.{slot_of_base}
+use Rattle.written_values.specs.plan_owners.States.{Stands}
+use Rattle.written_values.proofs.plan_owners.Standing.{slots, joined_at, listed_file}
+use Rattle.written_values.proofs.plan_owners.Outside.{once}
+use Rattle.written_values.proofs.plan_owners.Unnamed.{slot_of_base}
 
 part_uses : (x kind : ℕ) (name : List ℕ) (attrs more all : List Attr) → all ≡ attrs ++ more → uses (runs_in (stream_of kind name attrs)) x ≤ sum_by (attr_uses x) (filter (is_attribute_of kind name) all)
 part_uses x kind name attrs more all are =

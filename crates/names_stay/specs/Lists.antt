@@ -9,11 +9,11 @@ use Rattle.state_model.specs.declared.geometry.Geometry.{Geometry}
 use Rattle.volume_model.specs.Volumes.{Volume, file_in, cluster_bits}
 use Rattle.tree_model.specs.declared.script.Op.{Op}
 use Rattle.plan_draft.specs.declared.touched.Touched.{Touched}
-use Rattle.data_plan.specs.declared.change.DataChange.{DataChange}
-use Rattle.data_plan.specs.Changes.{growth_of}
+use Rattle.made_data.specs.data_plan.declared.change.DataChange.{DataChange}
+use Rattle.made_data.specs.data_plan.Changes.{growth_of}
 use Rattle.made_data.specs.Made.{record_with_data}
-use Rattle.file_puts.specs.declared.streams.VolumeStreams.{VolumeStreams}
-use Rattle.file_puts.specs.Written.{WritesBy, HasWritten}
+use Rattle.written_values.specs.file_puts.declared.streams.VolumeStreams.{VolumeStreams}
+use Rattle.written_values.specs.file_puts.Written.{WritesBy, HasWritten}
 
 abbrev pub is_list : Attr → Bool
 is_list a = a.head.kind == attribute_list

@@ -8,3 +8,5 @@
 mod laws;
 
 pub use laws::{names_stay, writes_keep_lists, writes_keep_names};
+pub use made_data::made_is_counted;
+pub use written_values::{steps_of_trees, steps_stay};

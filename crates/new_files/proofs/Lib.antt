@@ -1,2 +1,3 @@
+pub use Rattle.step_model.proofs as step_model
 pub mod Spelled
 pub mod Standing

@@ -15,12 +15,12 @@ use Rattle.record_model.specs.Values.{is_standard_information, is_file_name, has
 use Rattle.record_model.proofs.FileNames.{file_name_read, file_name_spelled, file_name_lawful, length-file_name_over}
 use Rattle.record_model.proofs.FixedValues.{std_info_read, std_info_spelled, length-std_info_over}
 use Rattle.record_model.proofs.UnitBytes.{length-zeros}
-use Rattle.record_writer.proofs.Measures.{length-spelling}
-use Rattle.record_writer.proofs.Rising.{rise_true}
+use Rattle.plan_edits.proofs.record_writer.Measures.{length-spelling}
+use Rattle.plan_edits.proofs.record_writer.Rising.{rise_true}
 use Rattle.state_model.specs.Loads.{Used, slot_of, has_all_pairs}
-use Rattle.draft_records.specs.Records.{written_record}
-use Rattle.draft_records.proofs.Spelled.{spelled_fits}
-use Rattle.draft_records.proofs.Written.{body_whole, room_of}
+use Rattle.plan_edits.specs.draft_records.Records.{written_record}
+use Rattle.plan_edits.proofs.draft_records.Spelled.{spelled_fits}
+use Rattle.plan_edits.proofs.draft_records.Written.{body_whole, room_of}
 use Rattle.plan_edits.proofs.Reading.{written_read}
 use Rattle.new_files.specs.NewFiles.{new_info, new_info_value, new_name, new_name_value, unnamed, new_attrs, new_record}
 use Rattle.new_files.specs.Laws.{HasFields, IsSpelled}

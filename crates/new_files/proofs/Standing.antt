@@ -5,7 +5,7 @@ use Rattle.host_base.specs.declared.file_ref.FileRef.{FileRef}
 use Rattle.record_model.specs.Constants.{attribute_list, standard_information, file_name, data_type}
 use Rattle.record_model.specs.declared.values.StdInfo.{StdInfo}
 use Rattle.record_model.specs.Records.{Record, used_of}
-use Rattle.record_writer.proofs.Measures.{length-spelling}
+use Rattle.plan_edits.proofs.record_writer.Measures.{length-spelling}
 use Rattle.file_tree.specs.declared.link.Link.{Link}
 use Rattle.file_tree.specs.declared.node.Kind.{Kind}
 use Rattle.file_tree.specs.declared.node.Kind.TheVariants.{File, System}
@@ -23,7 +23,7 @@ use Rattle.volume_model.specs.Nodes.{data_flags, why_not, is_unread, is_unchange
 use Rattle.volume_model.specs.Owners.{file_runs}
 use Rattle.volume_model.specs.Sizes.{keeps_stream}
 use Rattle.tree_model.specs.Effects.{new_file}
-use Rattle.index_change.specs.Orders.{link_of}
+use Rattle.plan_edits.specs.index_change.Orders.{link_of}
 use Rattle.step_model.specs.Spreads.{IsKeyOf}
 use Rattle.step_model.specs.Used.{new_attr, value_attr}
 use Rattle.step_model.specs.Plans.{new_file_attrs}

@@ -16,7 +16,7 @@ use Rattle.volume_model.specs.Nodes.{node_by}
 use Rattle.volume_model.specs.Owners.{file_runs}
 use Rattle.volume_model.specs.Sizes.{keeps_stream}
 use Rattle.tree_model.specs.Effects.{new_file}
-use Rattle.draft_records.specs.Records.{written_record}
+use Rattle.plan_edits.specs.draft_records.Records.{written_record}
 use Rattle.step_model.specs.Spreads.{IsKeyOf}
 use Rattle.step_model.specs.Plans.{new_file_attrs}
 use Rattle.new_files.specs.NewFiles.{new_info, new_record, new_key, link_in}

@@ -8,7 +8,7 @@
 mod laws;
 mod records;
 
-pub use file_record::FileRec;
 pub use index_model::Key;
 pub use laws::new_file_reads;
+pub use plan_edits::FileRec;
 pub use records::{new_key, new_record};

@@ -4,9 +4,9 @@ ghost use Rattle.disk_model.specs.Bytes.{zeros};
 ghost use Rattle.record_model.specs.Records.{FitsRecord};
 ghost use Rattle.new_files.specs.NewFiles.{new_info_value, new_name, new_name_value, unnamed, new_attrs, new_head, new_record, new_key};
 
-use file_record::FileRec;
 use host_base::{Bytes, FileRef};
 use index_model::Key;
+use plan_edits::FileRec;
 use record_model::{
     Attr, DATA, FILE_NAME, FileNameValue, Head, OwnForm, RecHead, STANDARD_INFORMATION, StdInfo,
 };

@@ -5,19 +5,19 @@ use Rattle.std.specs.Global.{Global}
 use Rattle.std.specs.Prelude.{IfSome, IsErr, String, string_bytes}
 use Rattle.host_base.specs.Answers.{◌>>=◌, GivesOrFails}
 use Rattle.host_base.proofs.Known.{one}
-use Rattle.image_open.specs.declared.refusal.Refusal.{Refusal}
-use Rattle.image_open.specs.declared.refusal.MountFault.{MountFault}
-use Rattle.image_open.specs.declared.refusal.MountFault.TheVariants as errors
-use Rattle.image_open.specs.Errors.{scan_cause, refused_as}
+use Rattle.volume_run.specs.image_open.declared.refusal.Refusal.{Refusal}
+use Rattle.volume_run.specs.image_open.declared.refusal.MountFault.{MountFault}
+use Rattle.volume_run.specs.image_open.declared.refusal.MountFault.TheVariants as errors
+use Rattle.volume_run.specs.image_open.Errors.{scan_cause, refused_as}
 use Rattle.volume_format.specs.declared.fault.FormatRefusal.{FormatRefusal}
 use Rattle.volume_format.specs.declared.fault.Formatted.{Formatted}
 use Rattle.volume_format.specs.Answers.{format_answer}
-use Rattle.image_open.specs.declared.refusal.Refusal.TheVariants.{Short}
+use Rattle.volume_run.specs.image_open.declared.refusal.Refusal.TheVariants.{Short}
 use Rattle.tree_model.specs.declared.script.Command.{Command}
-use Rattle.image_read.specs.Scans.{scan_of}
-use Rattle.image_read.specs.Checks.{check_of}
-use Rattle.image_read.specs.Records.{journal_of}
-use Rattle.volume_mount.specs.Mounts.{mounted_of}
+use Rattle.volume_run.specs.image_read.Scans.{scan_of}
+use Rattle.volume_run.specs.image_read.Checks.{check_of}
+use Rattle.volume_run.specs.image_read.Records.{journal_of}
+use Rattle.volume_run.specs.volume_mount.Mounts.{mounted_of}
 use Rattle.volume_run.specs.Prints.{Counted, RunsAs}
 use Rattle.ntfs_host.specs.declared.command.Quiet.TheVariants.{Scan, Dump, Check, Journal, Format}
 use Rattle.ntfs_host.specs.Answers.{format_refusal, format_line, known_disk, known_answer, known_mount, scan_answer, dump_answer, check_answer, journal_answer}

@@ -2,7 +2,7 @@
 use Rattle.std.proofs.Common.{◌≡◌, ℕ, ◌⊎◌, List, Option, Some, None, Result, Ok, Err, refl, inl, inr}
 use Rattle.std.specs.Prelude.{IfSome, IsOk, IsErr}
 use Rattle.sector_device.specs.Moments.{Changes}
-use Rattle.image_open.specs.declared.refusal.Refusal.{Refusal}
+use Rattle.volume_run.specs.image_open.declared.refusal.Refusal.{Refusal}
 use Rattle.ntfs_host.specs.declared.command.Quiet.{Quiet}
 use Rattle.ntfs_host.specs.declared.command.Quiet.TheVariants.{Scan, Dump, Check, Journal, Format}
 use Rattle.ntfs_host.specs.declared.command.Asked.TheVariants.{Quietly}

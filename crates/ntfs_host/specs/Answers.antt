@@ -7,16 +7,16 @@ use Rattle.volume_format.specs.declared.fault.FormatFault.TheVariants as formats
 use Rattle.volume_format.specs.declared.fault.FormatRefusal.{FormatRefusal}
 use Rattle.volume_format.specs.declared.fault.FormatRefusal.TheVariants as sizes
 use Rattle.volume_format.specs.Answers.{format_answer}
-use Rattle.image_open.specs.declared.refusal.Refusal.{Refusal}
-use Rattle.image_open.specs.declared.refusal.Refusal.TheVariants.{VolumeLarge, Short}
-use Rattle.image_open.specs.declared.refusal.MountFault.{MountFault}
-use Rattle.image_open.specs.declared.refusal.MountFault.TheVariants as errors
-use Rattle.image_open.specs.Errors.{refused_as}
-use Rattle.image_read.specs.Scans.{scan_of}
+use Rattle.volume_run.specs.image_open.declared.refusal.Refusal.{Refusal}
+use Rattle.volume_run.specs.image_open.declared.refusal.Refusal.TheVariants.{VolumeLarge, Short}
+use Rattle.volume_run.specs.image_open.declared.refusal.MountFault.{MountFault}
+use Rattle.volume_run.specs.image_open.declared.refusal.MountFault.TheVariants as errors
+use Rattle.volume_run.specs.image_open.Errors.{refused_as}
+use Rattle.volume_run.specs.image_read.Scans.{scan_of}
 use Rattle.image_dump.specs.Texts.{scan_text, dump_text, check_text, journal_text}
-use Rattle.image_read.specs.Checks.{check_of}
-use Rattle.image_read.specs.Records.{journal_of}
-use Rattle.volume_mount.specs.Mounts.{MountedVolume, mounted_of}
+use Rattle.volume_run.specs.image_read.Checks.{check_of}
+use Rattle.volume_run.specs.image_read.Records.{journal_of}
+use Rattle.volume_run.specs.volume_mount.Mounts.{MountedVolume, mounted_of}
 use Rattle.ntfs_host.specs.declared.command.Quiet.{Quiet}
 use Rattle.ntfs_host.specs.declared.command.Quiet.TheVariants.{Scan, Dump, Check, Journal, Format}
 use Rattle.ntfs_host.specs.Text.{formatted_line}

@@ -10,8 +10,8 @@ use Rattle.volume_format.specs.Stopping.{PutsFront, KeepsOthers}
 use Rattle.volume_format.specs.Crashing.{IsSettledNow, KeepsLeft}
 use Rattle.tree_model.specs.declared.script.Command.{Command}
 use Rattle.script_text.specs.Scripts.{script_of}
-use Rattle.image_open.specs.declared.refusal.Refusal.{Refusal}
-use Rattle.volume_mount.specs.Mounts.{MountedVolume}
+use Rattle.volume_run.specs.image_open.declared.refusal.Refusal.{Refusal}
+use Rattle.volume_run.specs.volume_mount.Mounts.{MountedVolume}
 use Rattle.volume_run.specs.Prints.{Counted, counted_by}
 use Rattle.ntfs_host.specs.declared.command.Quiet.TheVariants.{Scan, Dump, Check, Journal, Format}
 use Rattle.ntfs_host.specs.declared.command.Asked.{Asked}

@@ -4,8 +4,8 @@ use Rattle.std.specs.Io.KnownBytes.{Appends}
 use Rattle.host_base.specs.Causes.{AppendsPart}
 use Rattle.tree_model.specs.declared.script.Command.{Command}
 use Rattle.script_text.specs.declared.fault.ScriptFault.{ScriptFault}
-use Rattle.image_open.specs.declared.refusal.Refusal.{Refusal}
-use Rattle.volume_mount.specs.Mounts.{MountedVolume}
+use Rattle.volume_run.specs.image_open.declared.refusal.Refusal.{Refusal}
+use Rattle.volume_run.specs.volume_mount.Mounts.{MountedVolume}
 use Rattle.volume_run.specs.Prints.{Counted, IsPrintedRun}
 use Rattle.ntfs_host.specs.Scripts.{script_line}
 use Rattle.ntfs_host.specs.Text.{refusal_line}

@@ -2,8 +2,8 @@
 use Rattle.std.specs.Prelude.{ℕ, List, [], ◌∷◌, ◌++◌, codes, Result, Ok, Err}
 use Rattle.std.specs.Fmt.{decimal}
 use Rattle.volume_format.specs.declared.fault.Formatted.{Formatted}
-use Rattle.image_open.specs.declared.refusal.Refusal.{Refusal}
-use Rattle.image_open.specs.declared.refusal.Refusal.TheVariants.{NotNtfs, Geometry, VolumeLarge, Short, BadFixup, BadRecord, MftList, MftLarge, Version, LogVersion, NoRestart, ForeignLog, LogSmall, NoJournal, BadVolume, HasJournal, Unbuilt}
+use Rattle.volume_run.specs.image_open.declared.refusal.Refusal.{Refusal}
+use Rattle.volume_run.specs.image_open.declared.refusal.Refusal.TheVariants.{NotNtfs, Geometry, VolumeLarge, Short, BadFixup, BadRecord, MftList, MftLarge, Version, LogVersion, NoRestart, ForeignLog, LogSmall, NoJournal, BadVolume, HasJournal, Unbuilt}
 use Rattle.image_dump.specs.Texts.{line}
 
 -- the line of a refusal: its number, its name and its values

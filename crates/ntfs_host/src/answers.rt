@@ -2,7 +2,7 @@
 ghost use Rattle.std.specs.Prelude.{◌≡◌, ◌<◌, ◌≤◌, IfOk, IfSome, string_bytes};
 ghost use Rattle.host_base.specs.Answers.{GivesOrFails};
 ghost use Rattle.volume_format.specs.Answers.{format_answer};
-ghost use Rattle.image_open.specs.Errors.{scan_cause, refused_as};
+ghost use Rattle.volume_run.specs.image_open.Errors.{scan_cause, refused_as};
 ghost use Rattle.image_dump.specs.Texts.{scan_text, dump_text, check_text, journal_text};
 ghost use Rattle.ntfs_host.specs.declared.command.Quiet.TheVariants.{Scan as the_scan, Dump as the_dump, Check as the_check, Journal as the_journal};
 ghost use Rattle.ntfs_host.specs.declared.command.Asked.TheVariants.{Quietly};
@@ -14,11 +14,10 @@ use crate::text::formatted_line;
 use file_tree::{Link, Tree};
 use host_base::Memory;
 use image_dump::{check_text, dump_text, journal_text, scan_text};
-use image_open::{MountFault, Refusal};
-use image_read::{ReadJournal, check_image, read_journal, scan_image};
 use sector_device::Device;
 use std::alloc::Global;
 use volume_format::{FormatFault, FormatRefusal, Formatted, format};
+use volume_run::{MountFault, ReadJournal, Refusal, check_image, read_journal, scan_image};
 
 fn text_of_links(alloc: Global, links: &[Link]) -> Result<String, Memory>
     ensures text { IfOk result (λ text. string_bytes text ≡ scan_text links.now) }

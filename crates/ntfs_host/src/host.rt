@@ -16,11 +16,11 @@ use crate::script_run::run_command;
 use crate::status::{DEVICE_FAULT, DONE, MEMORY, REFUSED, SINK_FAULT, USAGE, status_of};
 use command_line::{Command, LineFault, read_line};
 use host_base::{Gate, Sink, Source, write_all};
-use image_open::MountFault;
 use sector_device::Device;
 use std::alloc::{AllocError, Global};
 use std::sync::Wait;
 use std::thread::Threads;
+use volume_run::MountFault;
 
 const USAGE_LINE: &str = "usage: ntfshost IMAGE COMMAND [--time N] [--seed N] [--journal N]\n";
 

@@ -9,9 +9,9 @@ ghost use Rattle.ntfs_host.specs.Text.{refusal_line};
 use crate::text::{refusal_line, script_line};
 use crate::write_error::WriteError;
 use host_base::{Sink, write_all};
-use image_open::Refusal;
 use script_text::ScriptFault;
 use std::alloc::Global;
+use volume_run::Refusal;
 
 /// Writes the refusal's line.
 #[tactic(auto, using(host_base::proofs::Appending::nothing))]

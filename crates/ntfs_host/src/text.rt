@@ -3,10 +3,10 @@ ghost use Rattle.std.specs.Prelude.{◌≡◌, IfOk, string_bytes};
 ghost use Rattle.ntfs_host.specs.Scripts.{script_line};
 ghost use Rattle.ntfs_host.specs.Text.{refusal_line, formatted_line};
 
-use image_open::Refusal;
 use script_text::ScriptFault;
 use std::alloc::{AllocError, Global};
 use volume_format::Formatted;
+use volume_run::Refusal;
 
 /// The refusal's line: its number, its name and its values.
 #[tactic(auto, unfolding(crate::specs::Text::refusal_line))]

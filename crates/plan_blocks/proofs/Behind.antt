@@ -16,7 +16,7 @@ use Rattle.stream_runs.specs.Laws.{InOneCluster}
 use Rattle.stream_runs.specs.Runs.{moved, grown}
 use Rattle.stream_runs.proofs.Merging.{follow-append, follow-moved, uses-moved}
 use Rattle.stream_runs.proofs.Places.{Rise, rise_of, places-merged}
-use Rattle.plan_growth.proofs.Alike.{one_cluster}
+use Rattle.plan_edits.proofs.plan_growth.Alike.{one_cluster}
 
 -- no run holds a cluster behind them all
 none_holds : (first last n : ℕ) (runs others : List Run) → Rise n runs → n + total_clusters runs ≤ first → first ≤ last → find (holds first last) (runs ++ others) ≡ find (holds first last) others

@@ -27,9 +27,9 @@ use Rattle.volume_model.specs.Nodes.{first_flags}
 use Rattle.volume_model.specs.Owners.{file_runs, uses}
 use Rattle.volume_model.specs.Sizes.{are_joined, fits_volume, keeps_stream}
 use Rattle.stream_laws.proofs.Sharing.{attr_uses, uses-none, uses-flat_map, attributes_sum, attribute_kind}
-use Rattle.plan_growth.specs.Streams.{IsWritten}
-use Rattle.plan_growth.proofs.Placed.{same_or_other}
-use Rattle.plan_growth.proofs.Written.{Reads, written_types, written_directory, written_links, written_root, written_info, written_stream, written_flags, written_runs, written_sizes}
+use Rattle.plan_edits.specs.plan_growth.Streams.{IsWritten}
+use Rattle.plan_edits.proofs.plan_growth.Placed.{same_or_other}
+use Rattle.plan_edits.proofs.plan_growth.Written.{Reads, written_types, written_directory, written_links, written_root, written_info, written_stream, written_flags, written_runs, written_sizes}
 use Rattle.plan_blocks.specs.Blocks.{is_of_blocks, beside_blocks, used_stream, HasNoPlace, HasBlocks}
 
 -- ---- tests that none of these attributes passes

@@ -77,29 +77,29 @@ use Rattle.plan_owners.specs.States.{Stands}
 use Rattle.plan_owners.specs.Kinds.{OwnsAs}
 use Rattle.plan_owners.proofs.Standing.{streams_at, some_file, as_file, rule_4_at}
 use Rattle.plan_bodies.specs.Bodies.{NewBody, whole_write, writes_in, content_with, body_or}
-use Rattle.plan_model.specs.Drafts.{FollowsOwners, GoesOn, IsPut, gives_runs}
-use Rattle.plan_model.specs.Edits.{IsOwnedIn, WritesFiles, LeadsTo}
-use Rattle.plan_model.specs.Informed.{with_record}
-use Rattle.plan_model.proofs.Drafting.{per_is}
-use Rattle.plan_model.proofs.Informing.{slot_in_use, marked_in_use, implied}
-use Rattle.plan_model.proofs.OneRecord.{streams_test, by_test, sizes_from, OwnRecord, own_record, slot_begins, slot_put, file_slot}
-use Rattle.plan_model.proofs.Quiet.{record_owned, given_here, given_before, given_clear}
-use Rattle.plan_model.proofs.Stepping.{written_within, files_edited, tree_nodes}
-use Rattle.plan_growth.specs.Streams.{marks_streams}
-use Rattle.plan_growth.proofs.Placed.{same_or_other, stream_rule}
-use Rattle.plan_growth.proofs.Written.{Reads, all_read}
+use Rattle.plan_edits.specs.plan_model.Drafts.{FollowsOwners, GoesOn, IsPut, gives_runs}
+use Rattle.plan_edits.specs.plan_model.Edits.{IsOwnedIn, WritesFiles, LeadsTo}
+use Rattle.plan_edits.specs.plan_model.Informed.{with_record}
+use Rattle.plan_edits.proofs.plan_model.Drafting.{per_is}
+use Rattle.plan_edits.proofs.plan_model.Informing.{slot_in_use, marked_in_use, implied}
+use Rattle.plan_edits.proofs.plan_model.OneRecord.{streams_test, by_test, sizes_from, OwnRecord, own_record, slot_begins, slot_put, file_slot}
+use Rattle.plan_edits.proofs.plan_model.Quiet.{record_owned, given_here, given_before, given_clear}
+use Rattle.plan_edits.proofs.plan_model.Stepping.{written_within, files_edited, tree_nodes}
+use Rattle.plan_edits.specs.plan_growth.Streams.{marks_streams}
+use Rattle.plan_edits.proofs.plan_growth.Placed.{same_or_other, stream_rule}
+use Rattle.plan_edits.proofs.plan_growth.Written.{Reads, all_read}
 use Rattle.disk_model.specs.declared.block.Body.{Body}
-use Rattle.index_change.specs.NodePlans.{GoesOn as PlaceGoesOn, KeepsNodes}
+use Rattle.plan_edits.specs.index_change.NodePlans.{GoesOn as PlaceGoesOn, KeepsNodes}
 use Rattle.stream_laws.specs.Changes.{AreElsewhere}
 use Rattle.stream_laws.specs.Places.{AreOnce}
 use Rattle.plan_owners.proofs.ByKind.{marked_if_used}
 use Rattle.plan_owners.proofs.Outside.{once}
 use Rattle.plan_bodies.proofs.Putting.{body_put, none_elsewhere}
-use Rattle.plan_growth.specs.Growing.{MayGive}
-use Rattle.plan_growth.specs.Sizing.{marks_and}
-use Rattle.plan_growth.proofs.Runs.{grown_whole}
-use Rattle.plan_growth.proofs.Growing.{uses-grown, set_or}
-use Rattle.plan_growth.proofs.Sizing.{none_from}
+use Rattle.plan_edits.specs.plan_growth.Growing.{MayGive}
+use Rattle.plan_edits.specs.plan_growth.Sizing.{marks_and}
+use Rattle.plan_edits.proofs.plan_growth.Runs.{grown_whole}
+use Rattle.plan_edits.proofs.plan_growth.Growing.{uses-grown, set_or}
+use Rattle.plan_edits.proofs.plan_growth.Sizing.{none_from}
 use Rattle.plan_blocks.specs.Blocks.{used_stream, blocks_before, blocks_behind, IsFreshBlock, GrowsIndex, RoomDiffers}
 use Rattle.plan_blocks.proofs.Beside.{IsBeside, same_types, same_directory, same_links, same_names, same_root, same_info, same_stream, same_flags, blocks_uses, blocks_kept}
 use Rattle.plan_blocks.proofs.Behind.{lies_in_more}

@@ -33,19 +33,19 @@ use Rattle.plan_owners.specs.States.{Stands}
 use Rattle.plan_owners.proofs.Outside.{unused_outside}
 use Rattle.plan_bodies.specs.Bodies.{NewBody, AreBodies, body_in, body_or, put_bodies, content_with}
 use Rattle.plan_bodies.proofs.Putting.{body_put, sized_with, all_in_both, are_bodies as both_are}
-use Rattle.plan_model.specs.Drafts.{IsPut}
-use Rattle.plan_model.specs.Edits.{IsOwnedIn}
-use Rattle.plan_model.specs.Made.{ReadsAs}
-use Rattle.plan_model.proofs.Drafting.{per_is}
+use Rattle.plan_edits.specs.plan_model.Drafts.{IsPut}
+use Rattle.plan_edits.specs.plan_model.Edits.{IsOwnedIn}
+use Rattle.plan_edits.specs.plan_model.Made.{ReadsAs}
+use Rattle.plan_edits.proofs.plan_model.Drafting.{per_is}
 use Rattle.plan_draft.specs.declared.touched.Touched.{Touched}
 use Rattle.plan_draft.specs.Touching.{bodies_of}
 use Rattle.plan_draft.specs.Drafts.{drafted}
 use Rattle.plan_draft.specs.Same.{PutSame}
 use Rattle.draft_bits.specs.Effects.{IsKept}
-use Rattle.draft_records.specs.Records.{written_record}
-use Rattle.resized_streams.specs.declared.resized.Resized.{Resized}
-use Rattle.plan_growth.specs.Streams.{marks_streams}
-use Rattle.plan_growth.proofs.Growing.{uses-grown}
+use Rattle.plan_edits.specs.draft_records.Records.{written_record}
+use Rattle.plan_edits.specs.resized_streams.declared.resized.Resized.{Resized}
+use Rattle.plan_edits.specs.plan_growth.Streams.{marks_streams}
+use Rattle.plan_edits.proofs.plan_growth.Growing.{uses-grown}
 use Rattle.plan_edits.specs.Edits.{IsEdit}
 use Rattle.plan_edits.specs.Moves.{EditsDraft}
 use Rattle.plan_edits.specs.Puts.{PutsBlocks}

@@ -20,13 +20,13 @@ use Rattle.volume_model.specs.Sizes.{are_joined}
 use Rattle.stream_laws.proofs.Sharing.{attributes_sum}
 use Rattle.record_writer.specs.Normal.{normal}
 use Rattle.record_writer.specs.Edits.{with_attr_at}
-use Rattle.record_streams.specs.Placing.{with_stream, placed_attr, placed_first, placed_record}
-use Rattle.record_streams.proofs.Streams.{placed_is, first_passes, others_with, placed_one}
+use Rattle.record_values.specs.record_streams.Placing.{with_stream, placed_attr, placed_first, placed_record}
+use Rattle.record_values.proofs.record_streams.Streams.{placed_is, first_passes, others_with, placed_one}
 use Rattle.record_values.specs.Values.{valued_attr, valued_first, valued_record}
 use Rattle.record_values.proofs.Valued.{values_put}
-use Rattle.plan_growth.specs.Streams.{IsWritten}
-use Rattle.plan_growth.proofs.Placed.{placed_is_there, other_pieces}
-use Rattle.plan_growth.proofs.Written.{Reads, all_read, written_pieces, written_stream}
+use Rattle.plan_edits.specs.plan_growth.Streams.{IsWritten}
+use Rattle.plan_edits.proofs.plan_growth.Placed.{placed_is_there, other_pieces}
+use Rattle.plan_edits.proofs.plan_growth.Written.{Reads, all_read, written_pieces, written_stream}
 use Rattle.plan_blocks.specs.Blocks.{is_of_blocks, beside_blocks, used_stream, HasNoPlace, HasBlocks}
 use Rattle.plan_blocks.specs.Written.{MakesBlocks, BlocksAreWritten}
 use Rattle.plan_blocks.proofs.Beside.{differs, from_one, from_two}

@@ -16,7 +16,7 @@ use Rattle.index_model.specs.Walks.{Broken, walk_of}
 use Rattle.index_model.proofs.WalkLaw.{passed_walk, walk_passes}
 use Rattle.file_tree.specs.declared.link.Link.{Link}
 use Rattle.index_model.specs.Trees.{Tree, Leaf, Down, Entry as TreeEntry, DownEntry, Stands, raws_of}
-use Rattle.index_change.specs.NodePlans.{KeepsNodes}
+use Rattle.plan_edits.specs.index_change.NodePlans.{KeepsNodes}
 use Rattle.state_model.specs.declared.stream.Extents.{Extents}
 use Rattle.state_model.specs.declared.stream.Stream.{Stream}
 use Rattle.state_model.specs.declared.stream.Stream.TheVariants.{Held, Placed}
@@ -28,10 +28,10 @@ use Rattle.stream_runs.specs.Laws.{InOneCluster}
 use Rattle.stream_runs.specs.Runs.{grown}
 use Rattle.stream_runs.proofs.Merging.{follow-grown}
 use Rattle.stream_runs.proofs.Places.{places-grown}
-use Rattle.resized_streams.specs.Resizing.{lengthened, with_sizes}
-use Rattle.plan_growth.proofs.Runs.{grown_inside, end_is_total}
-use Rattle.plan_growth.proofs.Ruled.{sizes_lawful}
-use Rattle.plan_growth.proofs.Alike.{one_cluster}
+use Rattle.plan_edits.specs.resized_streams.Resizing.{lengthened, with_sizes}
+use Rattle.plan_edits.proofs.plan_growth.Runs.{grown_inside, end_is_total}
+use Rattle.plan_edits.proofs.plan_growth.Ruled.{sizes_lawful}
+use Rattle.plan_edits.proofs.plan_growth.Alike.{one_cluster}
 use Rattle.plan_blocks.specs.Blocks.{SizesRise}
 
 -- the extents of a stream that fits fit, also where it has none

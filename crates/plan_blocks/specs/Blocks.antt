@@ -14,7 +14,7 @@ use Rattle.file_tree.specs.declared.tree.Tree.{Tree}
 use Rattle.file_tree.specs.Trees.{node_at as node_by_number}
 use Rattle.bit_set.specs.Bits.{bit}
 use Rattle.index_model.specs.Indexes.{is_index_body}
-use Rattle.index_change.specs.NodePlans.{GoesOn as PlaceGoesOn, KeepsNodes}
+use Rattle.plan_edits.specs.index_change.NodePlans.{GoesOn as PlaceGoesOn, KeepsNodes}
 use Rattle.state_model.specs.declared.geometry.Geometry.{Geometry}
 use Rattle.state_model.specs.declared.stream.Extents.{Extents}
 use Rattle.state_model.specs.declared.stream.Stream.{Stream}
@@ -29,15 +29,15 @@ use Rattle.volume_model.specs.Volumes.{Volume, file_in, cluster_bits, upper_of}
 use Rattle.volume_state.specs.Trees.{tree_of}
 use Rattle.stream_laws.specs.Rewrites.{is_edited}
 use Rattle.record_writer.specs.Normal.{normal}
-use Rattle.resized_streams.specs.Resizing.{lengthened, with_sizes}
+use Rattle.plan_edits.specs.resized_streams.Resizing.{lengthened, with_sizes}
 use Rattle.plan_bodies.specs.Bodies.{NewBody, AreBodies, body_in, content_with}
 use Rattle.plan_owners.specs.States.{Stands}
-use Rattle.plan_model.specs.Drafts.{GoesOn, IsPut, gives_runs}
-use Rattle.plan_model.specs.Edits.{IsOwnedIn, LeadsTo}
-use Rattle.plan_model.specs.Informed.{IsApart, with_record}
-use Rattle.plan_model.specs.Made.{ReadsAs}
-use Rattle.plan_growth.specs.Growing.{MayGive}
-use Rattle.plan_growth.specs.Streams.{marks_streams, MayTake}
+use Rattle.plan_edits.specs.plan_model.Drafts.{GoesOn, IsPut, gives_runs}
+use Rattle.plan_edits.specs.plan_model.Edits.{IsOwnedIn, LeadsTo}
+use Rattle.plan_edits.specs.plan_model.Informed.{IsApart, with_record}
+use Rattle.plan_edits.specs.plan_model.Made.{ReadsAs}
+use Rattle.plan_edits.specs.plan_growth.Growing.{MayGive}
+use Rattle.plan_edits.specs.plan_growth.Streams.{marks_streams, MayTake}
 
 -- ---- the record
 

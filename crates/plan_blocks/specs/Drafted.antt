@@ -17,13 +17,13 @@ use Rattle.volume_model.specs.Indexes.{void_block}
 use Rattle.volume_model.specs.Volumes.{Volume, file_in, cluster_bits}
 use Rattle.plan_bodies.specs.Bodies.{NewBody}
 use Rattle.plan_owners.specs.States.{Stands}
-use Rattle.plan_model.specs.Informed.{IsApart}
+use Rattle.plan_edits.specs.plan_model.Informed.{IsApart}
 use Rattle.plan_draft.specs.declared.touched.Touched.{Touched}
 use Rattle.plan_draft.specs.Drafts.{drafted}
 use Rattle.draft_bits.specs.Effects.{IsKept}
-use Rattle.draft_records.specs.Records.{written_record}
-use Rattle.resized_streams.specs.declared.resized.Resized.{Resized}
-use Rattle.plan_growth.specs.Streams.{MayTake}
+use Rattle.plan_edits.specs.draft_records.Records.{written_record}
+use Rattle.plan_edits.specs.resized_streams.declared.resized.Resized.{Resized}
+use Rattle.plan_edits.specs.plan_growth.Streams.{MayTake}
 use Rattle.plan_edits.specs.Edits.{IsEdit}
 use Rattle.plan_edits.specs.Moves.{EditsDraft}
 use Rattle.plan_edits.specs.Puts.{PutsBlocks}

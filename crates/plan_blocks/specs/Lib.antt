@@ -1,3 +1,6 @@
+pub use Rattle.plan_edits.specs as plan_edits
+pub use Rattle.plan_edits.specs.draft_resized
+pub use Rattle.plan_edits.specs.plan_model
 pub mod Blocks
 pub mod Written
 pub mod Drafted

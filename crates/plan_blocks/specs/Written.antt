@@ -11,9 +11,9 @@ use Rattle.state_model.specs.Loads.{has_all_pairs}
 use Rattle.state_model.specs.Streams.{is_attribute_of, attributes_of, joined, first_vcn}
 use Rattle.volume_model.specs.Indexes.{index_stream}
 use Rattle.record_writer.specs.Edits.{with_attr_at}
-use Rattle.record_streams.specs.Placing.{placed_record}
+use Rattle.record_values.specs.record_streams.Placing.{placed_record}
 use Rattle.record_values.specs.Values.{valued_record}
-use Rattle.plan_growth.specs.Streams.{IsWritten}
+use Rattle.plan_edits.specs.plan_growth.Streams.{IsWritten}
 use Rattle.plan_blocks.specs.Blocks.{beside_blocks, used_stream, HasNoPlace, HasBlocks}
 
 -- The record with the blocks of its index in these extents and their bitmap as a value, in one attribute each. All other attributes stay.

@@ -1,1 +1,2 @@
+pub use Rattle.disk_model.specs as disk_model
 pub mod Bodies

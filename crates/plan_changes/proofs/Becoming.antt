@@ -1,14 +1,14 @@
 -- Trees that differ by one node.
 use Rattle.std.proofs.Common.{◌≡◌, ℕ, List, Option, Some, refl, ap, ◌∙◌}
 use Rattle.std.specs.Option.{option_map}
-use Rattle.record_model.specs.declared.values.StdInfo.{StdInfo}
-use Rattle.file_tree.specs.declared.node.Node.{Node}
-use Rattle.file_tree.specs.declared.tree.Tree.{Tree}
-use Rattle.file_tree.specs.Trees.{node_at as node_by_number}
-use Rattle.state_model.specs.declared.stream.Stream.{Stream}
-use Rattle.plan_model.specs.Informed.{with_info, InfoDiffers}
-use Rattle.plan_growth.specs.Trees.{with_data, DataDiffers}
-use Rattle.plan_values.specs.Trees.{FileDiffers}
+use Rattle.plan_informed.specs.record_model.declared.values.StdInfo.{StdInfo}
+use Rattle.tree_model.specs.file_tree.declared.node.Node.{Node}
+use Rattle.tree_model.specs.file_tree.declared.tree.Tree.{Tree}
+use Rattle.tree_model.specs.file_tree.Trees.{node_at as node_by_number}
+use Rattle.plan_informed.specs.state_model.declared.stream.Stream.{Stream}
+use Rattle.plan_informed.specs.plan_model.Informed.{with_info, InfoDiffers}
+use Rattle.plan_informed.specs.plan_growth.Trees.{with_data, DataDiffers}
+use Rattle.plan_informed.specs.plan_values.Trees.{FileDiffers}
 use Rattle.plan_changes.specs.Nodes.{NodeBecomes, NodesBecome}
 
 pub data_becomes : (n : ℕ) (shown : Option Stream) (bytes : List ℕ) (a : Node) (t u : Tree) → node_by_number t.nodes n ≡ Some a → DataDiffers n shown bytes t u → NodeBecomes n a (with_data shown bytes a) t u

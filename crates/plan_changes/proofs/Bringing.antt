@@ -3,12 +3,12 @@ use Rattle.std.proofs.Common.{◌≡◌, ℕ, ◌+◌, ◌-◌, ◌<◌, ◌≤�
 use Rattle.std.specs.Prelude.{replicate}
 use Rattle.std.proofs.lemmas.Bool.{le-ltb}
 use Rattle.std.proofs.lemmas.List.{append_assoc, append-nil, length-append, length-replicate, drop_all}
-use Rattle.file_tree.specs.declared.node.Node.{Node}
+use Rattle.tree_model.specs.file_tree.declared.node.Node.{Node}
 use Rattle.tree_model.specs.declared.script.Op.{Op}
 use Rattle.tree_model.specs.declared.script.Op.TheVariants as op
 use Rattle.tree_model.specs.Needs.{size_after}
 use Rattle.tree_model.specs.Effects.{zeros_up_to, put_at, bytes_after, valid_after}
-use Rattle.plan_edits.specs.Sizes.{put_over}
+use Rattle.plan_informed.specs.plan_edits.Sizes.{put_over}
 use Rattle.plan_changes.specs.Bytes.{GrowsFile, place_of, put_of, HasSizes, BytesBrought}
 
 -- where bytes behind zeros end

@@ -5,26 +5,26 @@ use Rattle.std.proofs.lemmas.List.{length-take}
 use Rattle.std.specs.List.Sorted.{IsPermutation}
 use Rattle.std.proofs.lemmas.List.Sorted.{IsPermutation-refl}
 use Rattle.host_base.specs.declared.file_ref.FileRef.{FileRef}
-use Rattle.record_model.specs.declared.values.StdInfo.{StdInfo}
-use Rattle.file_tree.specs.declared.node.Node.{Node}
-use Rattle.file_tree.specs.declared.tree.Tree.{Tree}
-use Rattle.file_tree.specs.Trees.{node_at as node_by_number}
-use Rattle.state_model.specs.declared.stream.Extents.{Extents}
-use Rattle.state_model.specs.declared.stream.Stream.{Stream}
-use Rattle.state_model.specs.declared.stream.Stream.TheVariants.{Held, Placed}
-use Rattle.state_model.specs.Loads.{total_clusters}
-use Rattle.volume_model.specs.Nodes.{clusters_or}
+use Rattle.plan_informed.specs.record_model.declared.values.StdInfo.{StdInfo}
+use Rattle.tree_model.specs.file_tree.declared.node.Node.{Node}
+use Rattle.tree_model.specs.file_tree.declared.tree.Tree.{Tree}
+use Rattle.tree_model.specs.file_tree.Trees.{node_at as node_by_number}
+use Rattle.plan_informed.specs.state_model.declared.stream.Extents.{Extents}
+use Rattle.plan_informed.specs.state_model.declared.stream.Stream.{Stream}
+use Rattle.plan_informed.specs.state_model.declared.stream.Stream.TheVariants.{Held, Placed}
+use Rattle.plan_informed.specs.state_model.Loads.{total_clusters}
+use Rattle.plan_informed.specs.volume_model.Nodes.{clusters_or}
 use Rattle.tree_model.specs.declared.script.Op.{Op}
 use Rattle.tree_model.specs.declared.script.Op.TheVariants as op
 use Rattle.tree_model.specs.Needs.{size_after, shrinks, clusters_for}
 use Rattle.tree_model.specs.Effects.{ref_at, with_node, changed_node, bytes_after, valid_after, clusters_after, MayStand, file_after, zeros_up_to, HasChanged}
-use Rattle.stream_runs.specs.Runs.{front}
-use Rattle.stream_runs.proofs.Merging.{total-merged}
-use Rattle.stream_runs.proofs.Parts.{total-front}
-use Rattle.resized_streams.specs.Resizing.{shortened}
-use Rattle.plan_model.specs.Informed.{with_info}
-use Rattle.plan_growth.specs.Trees.{with_data}
-use Rattle.plan_edits.proofs.Sizing.{length-put_over}
+use Rattle.plan_informed.specs.stream_runs.Runs.{front}
+use Rattle.plan_informed.proofs.stream_runs.Merging.{total-merged}
+use Rattle.plan_informed.proofs.stream_runs.Parts.{total-front}
+use Rattle.plan_informed.specs.resized_streams.Resizing.{shortened}
+use Rattle.plan_informed.specs.plan_model.Informed.{with_info}
+use Rattle.plan_informed.specs.plan_growth.Trees.{with_data}
+use Rattle.plan_informed.proofs.plan_edits.Sizing.{length-put_over}
 use Rattle.plan_changes.specs.Nodes.{NodeBecomes}
 use Rattle.plan_changes.specs.Bytes.{GrowsFile, place_of, put_of, HasSizes}
 use Rattle.plan_changes.specs.Changes.{IsDataAfter, Stamps, FileChanged}

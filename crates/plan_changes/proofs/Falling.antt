@@ -4,23 +4,23 @@ use Rattle.std.specs.Prelude.{count_by}
 use Rattle.std.proofs.lemmas.Bool.{cases_Bool, cases_lt, both_ways, and_from, and_parts, or_left, or_right, le-leb, lt-ltb, leb-true, ltb-true}
 use Rattle.std.proofs.lemmas.List.{ext_get_or}
 use Rattle.disk_model.specs.Content.{Content}
-use Rattle.record_model.specs.declared.runs.Run.{Run}
-use Rattle.record_model.specs.Records.{Record}
+use Rattle.plan_informed.specs.record_model.declared.runs.Run.{Run}
+use Rattle.plan_informed.specs.record_model.Records.{Record}
 use Rattle.bit_set.specs.Bits.{bit}
 use Rattle.bit_set.proofs.Views.{length-bits_of_bytes}
-use Rattle.space_model.specs.Choosing.{with_run}
-use Rattle.space_model.proofs.Fitting.{counted}
-use Rattle.space_model.proofs.Searching.{length-with_run, with_run-inside, with_run-others}
-use Rattle.state_model.specs.Loads.{total_clusters}
-use Rattle.volume_model.specs.Volumes.{Volume, bitmap_file, bytes_or, cluster_bitmap, cluster_bits}
-use Rattle.volume_model.specs.Nodes.{free_clusters}
-use Rattle.volume_model.specs.Owners.{covers_from, covers, uses}
-use Rattle.volume_state.specs.Trees.{tree_with, tree_of}
-use Rattle.stream_laws.specs.Replacing.{FileEdit, with_edits}
-use Rattle.stream_laws.proofs.Editing.{length-with_edits, other_file}
-use Rattle.stream_laws.proofs.Placing.{uses-cons}
-use Rattle.tree_laws.proofs.Parting.{cluster_bits_stay}
-use Rattle.plan_model.specs.Informed.{with_record}
+use Rattle.plan_informed.specs.space_model.Choosing.{with_run}
+use Rattle.plan_informed.proofs.space_model.Fitting.{counted}
+use Rattle.plan_informed.proofs.space_model.Searching.{length-with_run, with_run-inside, with_run-others}
+use Rattle.plan_informed.specs.state_model.Loads.{total_clusters}
+use Rattle.plan_informed.specs.volume_model.Volumes.{Volume, bitmap_file, bytes_or, cluster_bitmap, cluster_bits}
+use Rattle.plan_informed.specs.volume_model.Nodes.{free_clusters}
+use Rattle.plan_informed.specs.volume_model.Owners.{covers_from, covers, uses}
+use Rattle.plan_informed.specs.volume_state.Trees.{tree_with, tree_of}
+use Rattle.plan_informed.specs.stream_laws.Replacing.{FileEdit, with_edits}
+use Rattle.plan_informed.proofs.stream_laws.Editing.{length-with_edits, other_file}
+use Rattle.plan_informed.proofs.stream_laws.Placing.{uses-cons}
+use Rattle.plan_informed.proofs.tree_laws.Parting.{cluster_bits_stay}
+use Rattle.plan_informed.specs.plan_model.Informed.{with_record}
 use Rattle.plan_changes.specs.Rooms.{RoomsFall}
 
 -- ---- clear bits

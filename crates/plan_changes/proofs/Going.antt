@@ -6,42 +6,42 @@ use Rattle.std.proofs.lemmas.Bool.{both_ways, eq-eqb}
 use Rattle.host_base.specs.declared.file_ref.FileRef.{FileRef}
 use Rattle.disk_model.specs.Content.{Content}
 use Rattle.disk_model.specs.declared.block.BlockKind.TheVariants.{FileRec}
-use Rattle.record_model.specs.declared.attribute.Attr.{Attr}
-use Rattle.record_model.specs.declared.record.RecHead.{RecHead}
-use Rattle.record_model.specs.declared.runs.Run.{Run}
-use Rattle.record_model.specs.Constants.{attribute_list, standard_information}
-use Rattle.record_model.specs.Pairs.{cluster_limit, HasSpelling}
-use Rattle.record_model.specs.Records.{Record}
-use Rattle.state_model.specs.declared.geometry.Geometry.{Geometry}
-use Rattle.state_model.specs.declared.stream.Extents.{Extents}
-use Rattle.state_model.specs.declared.stream.Stream.{Stream}
-use Rattle.state_model.specs.declared.stream.Stream.TheVariants.{Placed}
-use Rattle.state_model.specs.Files.{file_at, is_base_record}
-use Rattle.state_model.specs.Loads.{total_clusters, has_fitting_pairs}
-use Rattle.state_model.specs.Streams.{attributes_of, stream_of, block_at}
-use Rattle.volume_model.specs.Volumes.{Volume, file_in}
-use Rattle.stream_laws.specs.Replacing.{FileEdit, with_edits}
-use Rattle.stream_laws.proofs.Editing.{edited_files}
-use Rattle.stream_laws.proofs.Tabling.{inside_list}
-use Rattle.stream_runs.specs.Runs.{front, grown}
-use Rattle.stream_runs.proofs.Merging.{follow-merged, follow-grown}
-use Rattle.stream_runs.proofs.Parts.{follow-front}
-use Rattle.plan_owners.specs.States.{Stands}
-use Rattle.plan_owners.proofs.Standing.{some_file, as_file}
-use Rattle.plan_bodies.specs.Bodies.{NewBody}
-use Rattle.plan_model.specs.Informed.{with_record}
-use Rattle.plan_model.proofs.OneRecord.{OwnRecord, own_record}
-use Rattle.record_streams.specs.Placing.{placed_record}
-use Rattle.resized_streams.specs.declared.resized.Resized.{Resized}
-use Rattle.resized_streams.specs.Resizing.{clusters_for}
-use Rattle.plan_growth.specs.Streams.{IsOwnStream, IsWritten}
-use Rattle.plan_growth.proofs.Placed.{some_attributes, placed_head, placed_types, placed_info, placed_is_there, placed_all}
-use Rattle.plan_growth.proofs.Resizing.{slot_open, used_pairs}
-use Rattle.plan_growth.proofs.Written.{Reads, all_read, placed_reads, written_types, written_info, written_stream}
-use Rattle.plan_values.specs.Values.{IsOwnFile, PutsWritten}
-use Rattle.plan_values.proofs.Staying.{Stays}
-use Rattle.plan_values.proofs.Valued.{value_stays}
-use Rattle.plan_values.proofs.Made.{made_stays}
+use Rattle.plan_informed.specs.record_model.declared.attribute.Attr.{Attr}
+use Rattle.plan_informed.specs.record_model.declared.record.RecHead.{RecHead}
+use Rattle.plan_informed.specs.record_model.declared.runs.Run.{Run}
+use Rattle.plan_informed.specs.record_model.Constants.{attribute_list, standard_information}
+use Rattle.plan_informed.specs.record_model.Pairs.{cluster_limit, HasSpelling}
+use Rattle.plan_informed.specs.record_model.Records.{Record}
+use Rattle.plan_informed.specs.state_model.declared.geometry.Geometry.{Geometry}
+use Rattle.plan_informed.specs.state_model.declared.stream.Extents.{Extents}
+use Rattle.plan_informed.specs.state_model.declared.stream.Stream.{Stream}
+use Rattle.plan_informed.specs.state_model.declared.stream.Stream.TheVariants.{Placed}
+use Rattle.plan_informed.specs.state_model.Files.{file_at, is_base_record}
+use Rattle.plan_informed.specs.state_model.Loads.{total_clusters, has_fitting_pairs}
+use Rattle.plan_informed.specs.state_model.Streams.{attributes_of, stream_of, block_at}
+use Rattle.plan_informed.specs.volume_model.Volumes.{Volume, file_in}
+use Rattle.plan_informed.specs.stream_laws.Replacing.{FileEdit, with_edits}
+use Rattle.plan_informed.proofs.stream_laws.Editing.{edited_files}
+use Rattle.plan_informed.proofs.stream_laws.Tabling.{inside_list}
+use Rattle.plan_informed.specs.stream_runs.Runs.{front, grown}
+use Rattle.plan_informed.proofs.stream_runs.Merging.{follow-merged, follow-grown}
+use Rattle.plan_informed.proofs.stream_runs.Parts.{follow-front}
+use Rattle.plan_informed.specs.plan_owners.States.{Stands}
+use Rattle.plan_informed.proofs.plan_owners.Standing.{some_file, as_file}
+use Rattle.plan_informed.specs.plan_bodies.Bodies.{NewBody}
+use Rattle.plan_informed.specs.plan_model.Informed.{with_record}
+use Rattle.plan_informed.proofs.plan_model.OneRecord.{OwnRecord, own_record}
+use Rattle.plan_informed.specs.record_streams.Placing.{placed_record}
+use Rattle.plan_informed.specs.resized_streams.declared.resized.Resized.{Resized}
+use Rattle.plan_informed.specs.resized_streams.Resizing.{clusters_for}
+use Rattle.plan_informed.specs.plan_growth.Streams.{IsOwnStream, IsWritten}
+use Rattle.plan_informed.proofs.plan_growth.Placed.{some_attributes, placed_head, placed_types, placed_info, placed_is_there, placed_all}
+use Rattle.plan_informed.proofs.plan_growth.Resizing.{slot_open, used_pairs}
+use Rattle.plan_informed.proofs.plan_growth.Written.{Reads, all_read, placed_reads, written_types, written_info, written_stream}
+use Rattle.plan_informed.specs.plan_values.Values.{IsOwnFile, PutsWritten}
+use Rattle.plan_informed.proofs.plan_values.Staying.{Stays}
+use Rattle.plan_informed.proofs.plan_values.Valued.{value_stays}
+use Rattle.plan_informed.proofs.plan_values.Made.{made_stays}
 use Rattle.plan_changes.specs.Going.{GoesOnIn, StandsAs, FilesGoOn}
 
 -- a record of a base that is put in the place of a file's is that of the file

@@ -1,3 +1,21 @@
+pub use Rattle.plan_informed.proofs as plan_informed
+pub use Rattle.plan_informed.proofs.draft_bits
+pub use Rattle.plan_informed.proofs.draft_records
+pub use Rattle.plan_informed.proofs.draft_resized
+pub use Rattle.plan_informed.proofs.index_change
+pub use Rattle.plan_informed.proofs.plan_edits
+pub use Rattle.plan_informed.proofs.plan_growth
+pub use Rattle.plan_informed.proofs.plan_model
+pub use Rattle.plan_informed.proofs.plan_owners
+pub use Rattle.plan_informed.proofs.plan_values
+pub use Rattle.plan_informed.proofs.record_streams
+pub use Rattle.plan_informed.proofs.record_values
+pub use Rattle.plan_informed.proofs.record_writer
+pub use Rattle.plan_informed.proofs.resized_streams
+pub use Rattle.plan_informed.proofs.stream_laws
+pub use Rattle.plan_informed.proofs.stream_map
+pub use Rattle.plan_informed.proofs.stream_runs
+pub use Rattle.plan_informed.proofs.tree_laws
 pub mod Becoming
 pub mod Showing
 pub mod Bringing

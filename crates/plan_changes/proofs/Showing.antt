@@ -1,25 +1,25 @@
 -- What the node of a file shows of its record.
 use Rattle.std.proofs.Common.{◌≡◌, ◌⊎◌, ℕ, Bool, true, false, cond, List, [], ◌∷◌, get_or, Option, Some, None, refl, sym, ap, subst, ◌∙◌, inl, inr}
 use Rattle.disk_model.specs.Content.{Content}
-use Rattle.record_model.specs.Records.{Record}
-use Rattle.file_tree.specs.declared.node.Kind.{Kind}
-use Rattle.file_tree.specs.declared.node.Kind.TheVariants.{File}
-use Rattle.file_tree.specs.declared.node.Node.{Node}
-use Rattle.file_tree.specs.Trees.{node_at as node_by_number}
-use Rattle.state_model.specs.declared.stream.Stream.{Stream}
-use Rattle.state_model.specs.Files.{only_base, file_at, is_base_record, info_of}
-use Rattle.state_model.specs.Loads.{data_stream}
-use Rattle.state_model.specs.Trees.{is_nameless}
-use Rattle.volume_model.specs.Volumes.{Volume, file_in, bytes_or, size_or}
-use Rattle.volume_model.specs.Nodes.{kind_in, valid_or, clusters_or, data_shown, node_with, node_by, some_node, node_at}
-use Rattle.volume_state.specs.Trees.{tree_of}
-use Rattle.stream_laws.specs.Replacing.{FileEdit, with_edits}
-use Rattle.stream_laws.proofs.Editing.{edited_files}
-use Rattle.stream_laws.proofs.Tabling.{inside_list}
-use Rattle.plan_owners.proofs.Standing.{some_file, as_file}
-use Rattle.plan_model.specs.Informed.{with_info, with_record}
-use Rattle.plan_model.proofs.Stepping.{tree_nodes}
-use Rattle.plan_growth.specs.Trees.{with_data}
+use Rattle.plan_informed.specs.record_model.Records.{Record}
+use Rattle.tree_model.specs.file_tree.declared.node.Kind.{Kind}
+use Rattle.tree_model.specs.file_tree.declared.node.Kind.TheVariants.{File}
+use Rattle.tree_model.specs.file_tree.declared.node.Node.{Node}
+use Rattle.tree_model.specs.file_tree.Trees.{node_at as node_by_number}
+use Rattle.plan_informed.specs.state_model.declared.stream.Stream.{Stream}
+use Rattle.plan_informed.specs.state_model.Files.{only_base, file_at, is_base_record, info_of}
+use Rattle.plan_informed.specs.state_model.Loads.{data_stream}
+use Rattle.plan_informed.specs.state_model.Trees.{is_nameless}
+use Rattle.plan_informed.specs.volume_model.Volumes.{Volume, file_in, bytes_or, size_or}
+use Rattle.plan_informed.specs.volume_model.Nodes.{kind_in, valid_or, clusters_or, data_shown, node_with, node_by, some_node, node_at}
+use Rattle.plan_informed.specs.volume_state.Trees.{tree_of}
+use Rattle.plan_informed.specs.stream_laws.Replacing.{FileEdit, with_edits}
+use Rattle.plan_informed.proofs.stream_laws.Editing.{edited_files}
+use Rattle.plan_informed.proofs.stream_laws.Tabling.{inside_list}
+use Rattle.plan_informed.proofs.plan_owners.Standing.{some_file, as_file}
+use Rattle.plan_informed.specs.plan_model.Informed.{with_info, with_record}
+use Rattle.plan_informed.proofs.plan_model.Stepping.{tree_nodes}
+use Rattle.plan_informed.specs.plan_growth.Trees.{with_data}
 use Rattle.plan_changes.specs.Nodes.{NodeBecomes}
 use Rattle.plan_changes.specs.Files.{IsChangeable, own_data, Shows, with_own, Follows, FilesShow}
 use Rattle.plan_changes.proofs.Becoming.{data_becomes, info_becomes, both_become}

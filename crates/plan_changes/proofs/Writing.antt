@@ -1,41 +1,41 @@
 -- A write, or a greater size, of a file whose data stands in clusters.
 use Rattle.std.proofs.Common.{◌≡◌, ℕ, ◌+◌, ◌<◌, ◌≤◌, max, false, List, [], length, Option, Some, sym, ap, subst, ◌∙◌, arith}
 use Rattle.disk_model.specs.Content.{Content, HasSizes as HasBlockSizes}
-use Rattle.record_model.specs.Constants.{data_type}
-use Rattle.record_model.specs.Records.{Record}
-use Rattle.file_tree.specs.declared.node.Node.{Node}
-use Rattle.file_tree.specs.declared.tree.Tree.{Tree}
+use Rattle.plan_informed.specs.record_model.Constants.{data_type}
+use Rattle.plan_informed.specs.record_model.Records.{Record}
+use Rattle.tree_model.specs.file_tree.declared.node.Node.{Node}
+use Rattle.tree_model.specs.file_tree.declared.tree.Tree.{Tree}
 use Rattle.bit_set.specs.Bits.{bit}
-use Rattle.state_model.specs.declared.geometry.Geometry.{Geometry}
-use Rattle.state_model.specs.declared.stream.Extents.{Extents}
-use Rattle.state_model.specs.declared.stream.Stream.{Stream}
-use Rattle.state_model.specs.declared.stream.Stream.TheVariants.{Placed}
-use Rattle.state_model.specs.Files.{info_of}
-use Rattle.state_model.specs.Loads.{total_clusters}
-use Rattle.volume_model.specs.Volumes.{Volume, file_stream, bytes_or, cluster_bits}
-use Rattle.volume_state.specs.Trees.{tree_of}
+use Rattle.plan_informed.specs.state_model.declared.geometry.Geometry.{Geometry}
+use Rattle.plan_informed.specs.state_model.declared.stream.Extents.{Extents}
+use Rattle.plan_informed.specs.state_model.declared.stream.Stream.{Stream}
+use Rattle.plan_informed.specs.state_model.declared.stream.Stream.TheVariants.{Placed}
+use Rattle.plan_informed.specs.state_model.Files.{info_of}
+use Rattle.plan_informed.specs.state_model.Loads.{total_clusters}
+use Rattle.plan_informed.specs.volume_model.Volumes.{Volume, file_stream, bytes_or, cluster_bits}
+use Rattle.plan_informed.specs.volume_state.Trees.{tree_of}
 use Rattle.tree_model.specs.declared.script.Op.{Op}
 use Rattle.tree_model.specs.Needs.{size_after}
 use Rattle.tree_model.specs.Effects.{valid_after, bytes_after, HasChanged}
-use Rattle.stream_laws.proofs.Changing.{length-extent_bytes}
-use Rattle.plan_owners.specs.States.{Stands}
-use Rattle.plan_bodies.specs.Bodies.{NewBody}
-use Rattle.plan_bodies.proofs.Putting.{sized_with}
-use Rattle.plan_draft.specs.declared.touched.Touched.{Touched}
-use Rattle.plan_draft.specs.Touching.{bodies_of}
-use Rattle.plan_draft.specs.Drafts.{drafted}
-use Rattle.plan_model.specs.Informed.{with_info, with_record, InfoDiffers}
-use Rattle.draft_records.specs.Records.{written_record}
-use Rattle.resized_streams.specs.declared.resized.Resized.{Resized}
-use Rattle.plan_growth.specs.Sizing.{SizesStream}
-use Rattle.plan_growth.specs.Trees.{with_data, TreeFollows}
-use Rattle.plan_growth.proofs.Ruled.{stream_fits, sizes_lawful}
-use Rattle.plan_growth.proofs.Sizing.{sized_leads, sized_tree}
-use Rattle.plan_values.specs.Values.{IsOwnFile, WritesValues}
-use Rattle.plan_values.proofs.Valued.{values_written}
-use Rattle.plan_edits.specs.Moves.{EditsDraft}
-use Rattle.plan_edits.specs.Sizes.{put_over}
-use Rattle.plan_edits.proofs.Sizing.{sized_edit}
+use Rattle.plan_informed.proofs.stream_laws.Changing.{length-extent_bytes}
+use Rattle.plan_informed.specs.plan_owners.States.{Stands}
+use Rattle.plan_informed.specs.plan_bodies.Bodies.{NewBody}
+use Rattle.plan_informed.proofs.plan_bodies.Putting.{sized_with}
+use Rattle.plan_informed.specs.plan_draft.declared.touched.Touched.{Touched}
+use Rattle.plan_informed.specs.plan_draft.Touching.{bodies_of}
+use Rattle.plan_informed.specs.plan_draft.Drafts.{drafted}
+use Rattle.plan_informed.specs.plan_model.Informed.{with_info, with_record, InfoDiffers}
+use Rattle.plan_informed.specs.draft_records.Records.{written_record}
+use Rattle.plan_informed.specs.resized_streams.declared.resized.Resized.{Resized}
+use Rattle.plan_informed.specs.plan_growth.Sizing.{SizesStream}
+use Rattle.plan_informed.specs.plan_growth.Trees.{with_data, TreeFollows}
+use Rattle.plan_informed.proofs.plan_growth.Ruled.{stream_fits, sizes_lawful}
+use Rattle.plan_informed.proofs.plan_growth.Sizing.{sized_leads, sized_tree}
+use Rattle.plan_informed.specs.plan_values.Values.{IsOwnFile, WritesValues}
+use Rattle.plan_informed.proofs.plan_values.Valued.{values_written}
+use Rattle.plan_informed.specs.plan_edits.Moves.{EditsDraft}
+use Rattle.plan_informed.specs.plan_edits.Sizes.{put_over}
+use Rattle.plan_informed.proofs.plan_edits.Sizing.{sized_edit}
 use Rattle.plan_informed.proofs.Informed.{values_edit}
 use Rattle.plan_changes.specs.Bytes.{place_of, put_of, HasSizes}
 use Rattle.plan_changes.specs.Changes.{IsDataAfter}

@@ -1,11 +1,11 @@
 -- The bytes that an operation on a file puts, so that the file has those of the operation.
 use Rattle.std.specs.Prelude.{◌≡◌, ℕ, ◌+◌, ◌-◌, ◌<◌, ◌≤◌, max, min, ⊤, List, [], ◌++◌, length, replicate}
-use Rattle.file_tree.specs.declared.node.Node.{Node}
+use Rattle.tree_model.specs.file_tree.declared.node.Node.{Node}
 use Rattle.tree_model.specs.declared.script.Op.{Op}
 use Rattle.tree_model.specs.declared.script.Op.TheVariants as op
 use Rattle.tree_model.specs.Needs.{size_after}
 use Rattle.tree_model.specs.Effects.{bytes_after, valid_after}
-use Rattle.plan_edits.specs.Sizes.{put_over}
+use Rattle.plan_informed.specs.plan_edits.Sizes.{put_over}
 
 -- a write, or a truncate to a greater size
 abbrev pub GrowsFile : Op → Node → Type 0

@@ -1,21 +1,21 @@
 -- An operation that writes or cuts a file is done where its edits have led to the node that the operation leaves.
 use Rattle.std.specs.Prelude.{◌≡◌, ℕ, ◌+◌, ◌*◌, ◌≤◌, ◌<◌, max, Bool, true, false, List, take, Option, Some}
-use Rattle.record_model.specs.declared.values.StdInfo.{StdInfo}
-use Rattle.file_tree.specs.declared.node.Node.{Node}
-use Rattle.file_tree.specs.declared.tree.Tree.{Tree}
-use Rattle.state_model.specs.declared.stream.Extents.{Extents}
-use Rattle.state_model.specs.declared.stream.Stream.{Stream}
-use Rattle.state_model.specs.declared.stream.Stream.TheVariants.{Held, Placed}
-use Rattle.state_model.specs.Loads.{total_clusters}
-use Rattle.volume_model.specs.Volumes.{size_or}
-use Rattle.volume_model.specs.Nodes.{valid_or, clusters_or}
+use Rattle.plan_informed.specs.record_model.declared.values.StdInfo.{StdInfo}
+use Rattle.tree_model.specs.file_tree.declared.node.Node.{Node}
+use Rattle.tree_model.specs.file_tree.declared.tree.Tree.{Tree}
+use Rattle.plan_informed.specs.state_model.declared.stream.Extents.{Extents}
+use Rattle.plan_informed.specs.state_model.declared.stream.Stream.{Stream}
+use Rattle.plan_informed.specs.state_model.declared.stream.Stream.TheVariants.{Held, Placed}
+use Rattle.plan_informed.specs.state_model.Loads.{total_clusters}
+use Rattle.plan_informed.specs.volume_model.Volumes.{size_or}
+use Rattle.plan_informed.specs.volume_model.Nodes.{valid_or, clusters_or}
 use Rattle.tree_model.specs.declared.script.Op.{Op}
 use Rattle.tree_model.specs.declared.script.Op.TheVariants.{Truncate}
 use Rattle.tree_model.specs.Needs.{size_after, clusters_for}
 use Rattle.tree_model.specs.Effects.{bytes_after, valid_after, clusters_after, MayStand, HasChanged}
-use Rattle.plan_model.specs.Informed.{with_info}
-use Rattle.resized_streams.specs.Resizing.{shortened}
-use Rattle.plan_growth.specs.Trees.{with_data}
+use Rattle.plan_informed.specs.plan_model.Informed.{with_info}
+use Rattle.plan_informed.specs.resized_streams.Resizing.{shortened}
+use Rattle.plan_informed.specs.plan_growth.Trees.{with_data}
 use Rattle.plan_changes.specs.Nodes.{NodeBecomes}
 use Rattle.plan_changes.specs.Bytes.{GrowsFile, HasSizes}
 

@@ -1,21 +1,21 @@
 -- A file of which the bytes can be changed, and what its node shows of its record.
 use Rattle.std.specs.Prelude.{◌≡◌, ℕ, [], Option, Some}
 use Rattle.disk_model.specs.Content.{Content}
-use Rattle.record_model.specs.declared.values.StdInfo.{StdInfo}
-use Rattle.record_model.specs.Constants.{data_type}
-use Rattle.record_model.specs.Records.{Record}
-use Rattle.file_tree.specs.declared.node.Kind.TheVariants.{File}
-use Rattle.file_tree.specs.declared.node.Node.{Node}
-use Rattle.file_tree.specs.Trees.{node_at as node_by_number}
-use Rattle.state_model.specs.declared.stream.Stream.{Stream}
-use Rattle.state_model.specs.Files.{info_of}
-use Rattle.state_model.specs.Streams.{stream_of}
-use Rattle.volume_model.specs.Volumes.{Volume, file_in, bytes_or, size_or}
-use Rattle.volume_model.specs.Nodes.{kind_in, valid_or, clusters_or}
-use Rattle.volume_state.specs.Trees.{tree_of}
-use Rattle.plan_model.specs.Informed.{with_info, with_record, InfoDiffers}
-use Rattle.plan_growth.specs.Trees.{with_data, TreeFollows}
-use Rattle.plan_values.specs.Trees.{FileFollows}
+use Rattle.plan_informed.specs.record_model.declared.values.StdInfo.{StdInfo}
+use Rattle.plan_informed.specs.record_model.Constants.{data_type}
+use Rattle.plan_informed.specs.record_model.Records.{Record}
+use Rattle.tree_model.specs.file_tree.declared.node.Kind.TheVariants.{File}
+use Rattle.tree_model.specs.file_tree.declared.node.Node.{Node}
+use Rattle.tree_model.specs.file_tree.Trees.{node_at as node_by_number}
+use Rattle.plan_informed.specs.state_model.declared.stream.Stream.{Stream}
+use Rattle.plan_informed.specs.state_model.Files.{info_of}
+use Rattle.plan_informed.specs.state_model.Streams.{stream_of}
+use Rattle.plan_informed.specs.volume_model.Volumes.{Volume, file_in, bytes_or, size_or}
+use Rattle.plan_informed.specs.volume_model.Nodes.{kind_in, valid_or, clusters_or}
+use Rattle.plan_informed.specs.volume_state.Trees.{tree_of}
+use Rattle.plan_informed.specs.plan_model.Informed.{with_info, with_record, InfoDiffers}
+use Rattle.plan_informed.specs.plan_growth.Trees.{with_data, TreeFollows}
+use Rattle.plan_informed.specs.plan_values.Trees.{FileFollows}
 use Rattle.plan_changes.specs.Nodes.{NodeBecomes}
 
 -- the record and the node of a file of which the bytes can be read and changed

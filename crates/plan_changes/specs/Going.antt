@@ -1,27 +1,27 @@
 -- Behind an edit the file is one of its own again, so that the next edit begins where it ends.
 use Rattle.std.specs.Prelude.{◌≡◌, ℕ, List}
 use Rattle.disk_model.specs.Content.{Content, HasSizes}
-use Rattle.record_model.specs.declared.attribute.Attr.{Attr}
-use Rattle.record_model.specs.declared.runs.Run.{Run}
-use Rattle.record_model.specs.Records.{Record}
-use Rattle.state_model.specs.declared.geometry.Geometry.{Geometry}
-use Rattle.state_model.specs.declared.stream.Extents.{Extents}
-use Rattle.state_model.specs.declared.stream.Stream.{Stream}
-use Rattle.state_model.specs.declared.stream.Stream.TheVariants.{Placed}
-use Rattle.state_model.specs.Files.{info_of}
-use Rattle.state_model.specs.Streams.{stream_of}
-use Rattle.volume_model.specs.Volumes.{Volume}
-use Rattle.plan_owners.specs.States.{Stands}
-use Rattle.plan_bodies.specs.Bodies.{NewBody}
-use Rattle.plan_model.specs.Informed.{with_record}
-use Rattle.resized_streams.specs.declared.resized.Resized.{Resized}
-use Rattle.plan_growth.specs.Streams.{IsOwnStream}
-use Rattle.plan_growth.specs.Growing.{GrowsStream}
-use Rattle.plan_growth.specs.Cutting.{CutsStream}
-use Rattle.plan_growth.specs.Sizing.{SizesStream}
-use Rattle.plan_growth.specs.Leaving.{MovesValue}
-use Rattle.plan_values.specs.Values.{IsOwnFile, WritesValues}
-use Rattle.plan_values.specs.Made.{MakesData}
+use Rattle.plan_informed.specs.record_model.declared.attribute.Attr.{Attr}
+use Rattle.plan_informed.specs.record_model.declared.runs.Run.{Run}
+use Rattle.plan_informed.specs.record_model.Records.{Record}
+use Rattle.plan_informed.specs.state_model.declared.geometry.Geometry.{Geometry}
+use Rattle.plan_informed.specs.state_model.declared.stream.Extents.{Extents}
+use Rattle.plan_informed.specs.state_model.declared.stream.Stream.{Stream}
+use Rattle.plan_informed.specs.state_model.declared.stream.Stream.TheVariants.{Placed}
+use Rattle.plan_informed.specs.state_model.Files.{info_of}
+use Rattle.plan_informed.specs.state_model.Streams.{stream_of}
+use Rattle.plan_informed.specs.volume_model.Volumes.{Volume}
+use Rattle.plan_informed.specs.plan_owners.States.{Stands}
+use Rattle.plan_informed.specs.plan_bodies.Bodies.{NewBody}
+use Rattle.plan_informed.specs.plan_model.Informed.{with_record}
+use Rattle.plan_informed.specs.resized_streams.declared.resized.Resized.{Resized}
+use Rattle.plan_informed.specs.plan_growth.Streams.{IsOwnStream}
+use Rattle.plan_informed.specs.plan_growth.Growing.{GrowsStream}
+use Rattle.plan_informed.specs.plan_growth.Cutting.{CutsStream}
+use Rattle.plan_informed.specs.plan_growth.Sizing.{SizesStream}
+use Rattle.plan_informed.specs.plan_growth.Leaving.{MovesValue}
+use Rattle.plan_informed.specs.plan_values.Values.{IsOwnFile, WritesValues}
+use Rattle.plan_informed.specs.plan_values.Made.{MakesData}
 
 -- Its record stands in the volume behind the edit, with the same information, and the stream is one of its own, in the new extents.
 pub record GoesOnIn (v : Volume) (n kind : ℕ) (name : List ℕ) (r s : Record) (new : Stream) : Type 0 where

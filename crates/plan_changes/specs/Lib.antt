@@ -1,3 +1,29 @@
+pub use Rattle.plan_informed.specs as plan_informed
+pub use Rattle.plan_informed.specs.draft_bits
+pub use Rattle.plan_informed.specs.draft_records
+pub use Rattle.plan_informed.specs.draft_resized
+pub use Rattle.plan_informed.specs.draft_runs
+pub use Rattle.plan_informed.specs.draft_streams
+pub use Rattle.plan_informed.specs.index_change
+pub use Rattle.plan_informed.specs.index_model
+pub use Rattle.plan_informed.specs.index_tree
+pub use Rattle.plan_informed.specs.plan_draft
+pub use Rattle.plan_informed.specs.plan_edits
+pub use Rattle.plan_informed.specs.plan_growth
+pub use Rattle.plan_informed.specs.plan_model
+pub use Rattle.plan_informed.specs.plan_owners
+pub use Rattle.plan_informed.specs.plan_values
+pub use Rattle.plan_informed.specs.record_streams
+pub use Rattle.plan_informed.specs.record_values
+pub use Rattle.plan_informed.specs.record_writer
+pub use Rattle.plan_informed.specs.resized_streams
+pub use Rattle.plan_informed.specs.space_model
+pub use Rattle.plan_informed.specs.stream_laws
+pub use Rattle.plan_informed.specs.stream_runs
+pub use Rattle.plan_informed.specs.tree_laws
+pub use Rattle.plan_informed.specs.volume_model
+pub use Rattle.plan_informed.specs.volume_state
+pub use Rattle.tree_model.specs as tree_model
 pub mod Nodes
 pub mod Files
 pub mod Bytes

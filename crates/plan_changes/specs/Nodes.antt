@@ -1,13 +1,13 @@
 -- Trees that differ by one node.
 use Rattle.std.specs.Prelude.{◌≡◌, ◌≢◌, ℕ, List, Option, Some}
-use Rattle.record_model.specs.declared.values.StdInfo.{StdInfo}
-use Rattle.file_tree.specs.declared.node.Node.{Node}
-use Rattle.file_tree.specs.declared.tree.Tree.{Tree}
-use Rattle.file_tree.specs.Trees.{node_at as node_by_number}
-use Rattle.state_model.specs.declared.stream.Stream.{Stream}
-use Rattle.plan_model.specs.Informed.{with_info, InfoDiffers}
-use Rattle.plan_growth.specs.Trees.{with_data, DataDiffers}
-use Rattle.plan_values.specs.Trees.{FileDiffers}
+use Rattle.plan_informed.specs.record_model.declared.values.StdInfo.{StdInfo}
+use Rattle.tree_model.specs.file_tree.declared.node.Node.{Node}
+use Rattle.tree_model.specs.file_tree.declared.tree.Tree.{Tree}
+use Rattle.tree_model.specs.file_tree.Trees.{node_at as node_by_number}
+use Rattle.plan_informed.specs.state_model.declared.stream.Stream.{Stream}
+use Rattle.plan_informed.specs.plan_model.Informed.{with_info, InfoDiffers}
+use Rattle.plan_informed.specs.plan_growth.Trees.{with_data, DataDiffers}
+use Rattle.plan_informed.specs.plan_values.Trees.{FileDiffers}
 
 -- the trees are the same, but for this node, which becomes another one, and for the room
 pub record NodeBecomes (n : ℕ) (a b : Node) (t u : Tree) : Type 0 where

@@ -1,14 +1,14 @@
 -- By how much the room falls where an edit takes clusters.
 use Rattle.std.specs.Prelude.{◌≡◌, ◌≢◌, ℕ, ◌+◌, ◌<◌, ◌≤◌, ◌||◌, nat_le, false, List}
 use Rattle.disk_model.specs.Content.{Content}
-use Rattle.record_model.specs.declared.runs.Run.{Run}
-use Rattle.record_model.specs.Records.{Record}
+use Rattle.plan_informed.specs.record_model.declared.runs.Run.{Run}
+use Rattle.plan_informed.specs.record_model.Records.{Record}
 use Rattle.bit_set.specs.Bits.{bit}
-use Rattle.state_model.specs.Loads.{total_clusters}
-use Rattle.volume_model.specs.Volumes.{Volume, bitmap_file, cluster_bits}
-use Rattle.volume_model.specs.Owners.{uses}
-use Rattle.volume_state.specs.Trees.{tree_of}
-use Rattle.plan_model.specs.Informed.{with_record}
+use Rattle.plan_informed.specs.state_model.Loads.{total_clusters}
+use Rattle.plan_informed.specs.volume_model.Volumes.{Volume, bitmap_file, cluster_bits}
+use Rattle.plan_informed.specs.volume_model.Owners.{uses}
+use Rattle.plan_informed.specs.volume_state.Trees.{tree_of}
+use Rattle.plan_informed.specs.plan_model.Informed.{with_record}
 
 -- A record is put in the place of that of a file other than $Bitmap. Where the bits of runs come to be set, and no others, the room falls by
 -- at most their clusters; where each clear bit stays clear, it doesn't fall.

@@ -1,30 +1,30 @@
 -- A write, or a greater size, of a file whose data stands in clusters: by the calls of a draft to what the operation leaves of the tree.
 use Rattle.std.specs.Prelude.{◌≡◌, ℕ, ◌+◌, ◌*◌, ◌≤◌, max, false, List, [], length, Some}
 use Rattle.disk_model.specs.Content.{Content}
-use Rattle.record_model.specs.Constants.{data_type}
-use Rattle.record_model.specs.Records.{Record}
-use Rattle.file_tree.specs.declared.node.Node.{Node}
-use Rattle.file_tree.specs.declared.tree.Tree.{Tree}
-use Rattle.state_model.specs.declared.geometry.Geometry.{Geometry}
-use Rattle.state_model.specs.declared.stream.Extents.{Extents}
-use Rattle.state_model.specs.declared.stream.Stream.TheVariants.{Placed}
-use Rattle.state_model.specs.Files.{info_of}
-use Rattle.state_model.specs.Loads.{total_clusters}
-use Rattle.volume_model.specs.Volumes.{Volume, bytes_or}
-use Rattle.volume_model.specs.Sizes.{has_hole}
-use Rattle.volume_state.specs.Trees.{tree_of}
+use Rattle.plan_informed.specs.record_model.Constants.{data_type}
+use Rattle.plan_informed.specs.record_model.Records.{Record}
+use Rattle.tree_model.specs.file_tree.declared.node.Node.{Node}
+use Rattle.tree_model.specs.file_tree.declared.tree.Tree.{Tree}
+use Rattle.plan_informed.specs.state_model.declared.geometry.Geometry.{Geometry}
+use Rattle.plan_informed.specs.state_model.declared.stream.Extents.{Extents}
+use Rattle.plan_informed.specs.state_model.declared.stream.Stream.TheVariants.{Placed}
+use Rattle.plan_informed.specs.state_model.Files.{info_of}
+use Rattle.plan_informed.specs.state_model.Loads.{total_clusters}
+use Rattle.plan_informed.specs.volume_model.Volumes.{Volume, bytes_or}
+use Rattle.plan_informed.specs.volume_model.Sizes.{has_hole}
+use Rattle.plan_informed.specs.volume_state.Trees.{tree_of}
 use Rattle.tree_model.specs.declared.script.Op.{Op}
 use Rattle.tree_model.specs.Needs.{size_after, clusters_for}
 use Rattle.tree_model.specs.Effects.{valid_after, HasChanged}
-use Rattle.plan_owners.specs.States.{Stands}
-use Rattle.plan_draft.specs.declared.touched.Touched.{Touched}
-use Rattle.plan_draft.specs.Drafts.{drafted}
-use Rattle.plan_model.specs.Attributes.{RewritesValues}
-use Rattle.plan_model.specs.Informed.{is_info, with_record}
-use Rattle.draft_records.specs.Records.{written_record}
-use Rattle.resized_streams.specs.declared.resized.Resized.{Resized}
-use Rattle.plan_edits.specs.Records.{PutsRecordOf}
-use Rattle.plan_edits.specs.Sizes.{SizesWith, SizesOfVolume}
+use Rattle.plan_informed.specs.plan_owners.States.{Stands}
+use Rattle.plan_informed.specs.plan_draft.declared.touched.Touched.{Touched}
+use Rattle.plan_informed.specs.plan_draft.Drafts.{drafted}
+use Rattle.plan_informed.specs.plan_model.Attributes.{RewritesValues}
+use Rattle.plan_informed.specs.plan_model.Informed.{is_info, with_record}
+use Rattle.plan_informed.specs.draft_records.Records.{written_record}
+use Rattle.plan_informed.specs.resized_streams.declared.resized.Resized.{Resized}
+use Rattle.plan_informed.specs.plan_edits.Records.{PutsRecordOf}
+use Rattle.plan_informed.specs.plan_edits.Sizes.{SizesWith, SizesOfVolume}
 use Rattle.plan_changes.specs.Bytes.{GrowsFile, place_of, put_of}
 use Rattle.plan_changes.specs.Changes.{Stamps}
 use Rattle.plan_changes.specs.Files.{IsChangeable, own_data, with_own}

@@ -8,17 +8,17 @@ use Rattle.std.proofs.lemmas.Bool.{cases_lt, cases_Bool, and_from, or_left, or_r
 use Rattle.std.proofs.lemmas.List.{append-nil, take_more}
 use Rattle.std.proofs.lemmas.Grind.{flat_map-append}
 use Rattle.std.proofs.lemmas.List.Elements.{All-head, All-tail, All-cons, All-nil, All-append}
-use Rattle.disk_model.specs.declared.block.Block.{Block}
-use Rattle.disk_model.specs.declared.block.BlockKind.{BlockKind}
-use Rattle.disk_model.specs.declared.block.BlockKind.TheVariants.{Plain, FileRec, Index}
-use Rattle.disk_model.specs.declared.block.Change.{Change}
-use Rattle.disk_model.specs.Bodies.{BodyOf}
-use Rattle.disk_model.specs.Bytes.{part, written}
-use Rattle.disk_model.specs.Content.{Content, HasSizes}
-use Rattle.disk_model.specs.Laws.{IsElsewhere}
-use Rattle.disk_model.specs.Sectors.{sectors, same_block}
-use Rattle.disk_model.specs.Writes.{bytes_after, covers, is_covered, cover_all}
-use Rattle.disk_model.proofs.Frames.{bytes_elsewhere, overlay_elsewhere, same_block-is}
+use Rattle.plan_bodies.specs.disk_model.declared.block.Block.{Block}
+use Rattle.plan_bodies.specs.disk_model.declared.block.BlockKind.{BlockKind}
+use Rattle.plan_bodies.specs.disk_model.declared.block.BlockKind.TheVariants.{Plain, FileRec, Index}
+use Rattle.plan_bodies.specs.disk_model.declared.block.Change.{Change}
+use Rattle.plan_bodies.specs.disk_model.Bodies.{BodyOf}
+use Rattle.plan_bodies.specs.disk_model.Bytes.{part, written}
+use Rattle.plan_bodies.specs.disk_model.Content.{Content, HasSizes}
+use Rattle.plan_bodies.specs.disk_model.Laws.{IsElsewhere}
+use Rattle.plan_bodies.specs.disk_model.Sectors.{sectors, same_block}
+use Rattle.plan_bodies.specs.disk_model.Writes.{bytes_after, covers, is_covered, cover_all}
+use Rattle.block_view.proofs.disk_model.Frames.{bytes_elsewhere, overlay_elsewhere, same_block-is}
 use Rattle.block_view.specs.Changes.{Fits, write_of, writes_of, content_after}
 use Rattle.plan_bodies.specs.Bodies.{body_or}
 use Rattle.plan_draft.specs.declared.touched.Touched.{Touched}

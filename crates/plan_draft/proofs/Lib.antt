@@ -1,3 +1,4 @@
+pub use Rattle.plan_bodies.proofs as plan_bodies
 pub mod Placing
 pub mod Touching
 pub mod Puts

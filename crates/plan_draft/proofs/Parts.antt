@@ -3,11 +3,11 @@ use Rattle.std.proofs.Common.{◌≡◌, ℕ, zero, suc, ◌+◌, ◌-◌, ◌*�
 use Rattle.std.specs.Prelude.{All, IfSome, is_some}
 use Rattle.std.specs.Option.{option_map}
 use Rattle.std.proofs.lemmas.List.{length-replicate}
-use Rattle.disk_model.specs.declared.block.Block.{Block}
-use Rattle.disk_model.specs.Bodies.{BodyOf}
-use Rattle.disk_model.specs.Bytes.{zeros, written}
-use Rattle.disk_model.specs.Content.{Content, HasSizes}
-use Rattle.disk_model.specs.Sectors.{sectors}
+use Rattle.plan_bodies.specs.disk_model.declared.block.Block.{Block}
+use Rattle.plan_bodies.specs.disk_model.Bodies.{BodyOf}
+use Rattle.plan_bodies.specs.disk_model.Bytes.{zeros, written}
+use Rattle.plan_bodies.specs.disk_model.Content.{Content, HasSizes}
+use Rattle.plan_bodies.specs.disk_model.Sectors.{sectors}
 use Rattle.plan_bodies.specs.Bodies.{NewBody, body_in, content_with}
 use Rattle.plan_draft.specs.declared.touched.Touched.{Touched}
 use Rattle.plan_draft.specs.Touching.{keys_of, rises, IsWhole, touched_at, bodies_of, put_in_order}

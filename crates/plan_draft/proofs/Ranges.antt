@@ -4,9 +4,9 @@ use Rattle.std.specs.Prelude.{◌||◌}
 use Rattle.std.proofs.lemmas.Bool.{cases_lt, cases_Bool, eqb-true, eq-eqb, ne_eqb}
 use Rattle.std.proofs.lemmas.Grind.{same_number_lists}
 use Rattle.std.proofs.lemmas.List.{length-take, length-drop, get_or-take, get_or-drop}
-use Rattle.disk_model.specs.Bytes.{part, written}
-use Rattle.disk_model.proofs.Frames.{written_within, written_before, written_behind, length-written}
-use Rattle.disk_model.specs.Sectors.{sectors}
+use Rattle.plan_bodies.specs.disk_model.Bytes.{part, written}
+use Rattle.block_view.proofs.disk_model.Frames.{written_within, written_before, written_behind, length-written}
+use Rattle.plan_bodies.specs.disk_model.Sectors.{sectors}
 use Rattle.plan_draft.specs.declared.touched.Touched.{Touched}
 use Rattle.plan_draft.specs.Touching.{IsWhole}
 use Rattle.plan_draft.specs.Finishing.{same_front, differ_end, is_whole_change, change_start, change_end}

@@ -4,10 +4,10 @@ use mathlib.Core.Path.{fun_ext}
 use Rattle.std.specs.List.{AllByRecursion}
 use Rattle.std.proofs.lemmas.Bool.{cases_Bool, cases_lt, lt-ltb, le-ltb}
 use Rattle.std.specs.Option.{option_or}
-use Rattle.disk_model.specs.declared.block.Block.{Block}
-use Rattle.disk_model.specs.Content.{Content, HasSizes}
-use Rattle.disk_model.specs.Sectors.{same_block}
-use Rattle.disk_model.proofs.Frames.{same_block-is}
+use Rattle.plan_bodies.specs.disk_model.declared.block.Block.{Block}
+use Rattle.plan_bodies.specs.disk_model.Content.{Content, HasSizes}
+use Rattle.plan_bodies.specs.disk_model.Sectors.{same_block}
+use Rattle.block_view.proofs.disk_model.Frames.{same_block-is}
 use Rattle.plan_bodies.specs.Bodies.{NewBody, AreBodies, body_in, body_or, put_body, content_with}
 use Rattle.plan_bodies.proofs.Putting.{body_put, block_itself, same_through, same_to, either}
 use Rattle.plan_draft.specs.Touching.{block_key, put_in_order}

@@ -1,7 +1,7 @@
 -- A view with what a plan puts over it.
 use Rattle.std.specs.Prelude.{◌≡◌, ℕ, List, Option, All}
 use Rattle.std.specs.Option.{option_map}
-use Rattle.disk_model.specs.Content.{Content}
+use Rattle.plan_bodies.specs.disk_model.Content.{Content}
 use Rattle.plan_bodies.specs.Bodies.{content_with}
 use Rattle.plan_draft.specs.declared.touched.Touched.{Touched}
 use Rattle.plan_draft.specs.Touching.{bodies_of}

@@ -1,5 +1,5 @@
 -- Where an error of a call of a draft comes from.
-use Rattle.host_base.specs.Answers.{Cause, no_memory, failed}
+use Rattle.block_view.specs.host_base.Answers.{Cause, no_memory, failed}
 use Rattle.block_view.specs.declared.fault.ViewFault.{ViewFault}
 use Rattle.block_view.specs.declared.fault.ViewFault.TheVariants as view
 

@@ -1,9 +1,9 @@
 -- The changes that a plan comes to: of each touched block the bytes that differ, or its whole body.
 use Rattle.std.specs.Prelude.{◌≡◌, ℕ, zero, suc, ◌-◌, Bool, ◌||◌, ◌==◌, nat_lt, if◌then◌else◌, List, [], ◌∷◌, map, length, slice_index}
 use Rattle.std.specs.List.{flat_map}
-use Rattle.disk_model.specs.declared.block.Change.{Change}
-use Rattle.disk_model.specs.Bytes.{part}
-use Rattle.disk_model.specs.Content.{Content}
+use Rattle.plan_bodies.specs.disk_model.declared.block.Change.{Change}
+use Rattle.plan_bodies.specs.disk_model.Bytes.{part}
+use Rattle.plan_bodies.specs.disk_model.Content.{Content}
 use Rattle.plan_draft.specs.declared.touched.Touched.{Touched}
 use Rattle.plan_draft.specs.Touching.{block_key}
 

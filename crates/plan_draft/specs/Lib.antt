@@ -1,3 +1,5 @@
+pub use Rattle.block_view.specs as block_view
+pub use Rattle.plan_bodies.specs as plan_bodies
 pub mod Touching
 pub mod Drafts
 pub mod Sizes

@@ -1,7 +1,7 @@
 -- A draft's bodies stand in the order of their blocks, and those of a plan in the order in which they were put: they put the same.
 use Rattle.std.specs.Prelude.{◌≡◌, true, All, List}
-use Rattle.disk_model.specs.declared.block.Block.{Block}
-use Rattle.disk_model.specs.Content.{Content, HasSizes}
+use Rattle.plan_bodies.specs.disk_model.declared.block.Block.{Block}
+use Rattle.plan_bodies.specs.disk_model.Content.{Content, HasSizes}
 use Rattle.plan_bodies.specs.Bodies.{NewBody, AreBodies, body_in, put_body, content_with}
 use Rattle.plan_draft.specs.declared.touched.Touched.{Touched}
 use Rattle.plan_draft.specs.Touching.{bodies_of, put_in_order, rises, keys_of, IsWhole}

@@ -2,7 +2,7 @@
 use Rattle.std.specs.Prelude.{◌≡◌, List, Option, Some, None, IfSome, map}
 use Rattle.std.specs.Option.{option_map}
 use Rattle.std.proofs.Common.{◌∙◌}
-use Rattle.disk_model.specs.Content.{Content, HasSizes}
+use Rattle.plan_bodies.specs.disk_model.Content.{Content, HasSizes}
 use Rattle.disk_model.proofs.Frames.{length-bytes_after}
 use Rattle.plan_bodies.specs.Bodies.{writes_in}
 use Rattle.plan_draft.specs.declared.touched.Touched.{Touched}

@@ -1,11 +1,11 @@
 -- Blocks that a plan touches, each once, in order, with their old and their present bodies.
 use Rattle.std.specs.Prelude.{◌≡◌, ℕ, zero, suc, ◌+◌, ◌*◌, ◌<◌, ◌≤◌, true, Bool, ◌&&◌, ◌||◌, nat_le, nat_lt, if◌then◌else◌, List, [], ◌∷◌, map, length, slice_index_or, Option, Some, None}
-use Rattle.disk_model.specs.declared.block.Block.{Block}
-use Rattle.disk_model.specs.declared.block.BlockKind.{BlockKind}
-use Rattle.disk_model.specs.declared.block.BlockKind.TheVariants.{Plain, FileRec, Index}
-use Rattle.disk_model.specs.Bodies.{BodyOf}
-use Rattle.disk_model.specs.Content.{Content}
-use Rattle.disk_model.specs.Sectors.{sectors, same_block}
+use Rattle.plan_bodies.specs.disk_model.declared.block.Block.{Block}
+use Rattle.plan_bodies.specs.disk_model.declared.block.BlockKind.{BlockKind}
+use Rattle.plan_bodies.specs.disk_model.declared.block.BlockKind.TheVariants.{Plain, FileRec, Index}
+use Rattle.plan_bodies.specs.disk_model.Bodies.{BodyOf}
+use Rattle.plan_bodies.specs.disk_model.Content.{Content}
+use Rattle.plan_bodies.specs.disk_model.Sectors.{sectors, same_block}
 use Rattle.plan_bodies.specs.Bodies.{NewBody}
 use Rattle.plan_draft.specs.declared.touched.Touched.{Touched}
 

@@ -1,9 +1,9 @@
 -- Bytes that a plan puts into blocks.
 use Rattle.std.specs.Prelude.{ℕ, ◌*◌, Bool, true, false, List, Option, Some, None}
-use Rattle.disk_model.specs.declared.block.Block.{Block}
-use Rattle.disk_model.specs.Bytes.{written, zeros}
-use Rattle.disk_model.specs.Content.{Content}
-use Rattle.disk_model.specs.Sectors.{sectors}
+use Rattle.plan_bodies.specs.disk_model.declared.block.Block.{Block}
+use Rattle.plan_bodies.specs.disk_model.Bytes.{written, zeros}
+use Rattle.plan_bodies.specs.disk_model.Content.{Content}
+use Rattle.plan_bodies.specs.disk_model.Sectors.{sectors}
 use Rattle.plan_bodies.specs.Bodies.{NewBody, content_with, body_in}
 use Rattle.plan_draft.specs.Touching.{put_in_order}
 

@@ -1,8 +1,8 @@
 //! A draft of a plan as a view.
 ghost use Rattle.std.specs.Prelude.{◌≡◌, ◌*◌, [], true, All, IfErr, IfOk, IfSome, IsOk, OnOk, OnErr, is_some, length};
 ghost use Rattle.std.specs.Option.{option_map, ForSome};
-ghost use Rattle.host_base.specs.Causes.{HasCause};
-ghost use Rattle.disk_model.specs.Sectors.{sectors};
+ghost use Rattle.block_view.specs.host_base.Causes.{HasCause};
+ghost use Rattle.plan_bodies.specs.disk_model.Sectors.{sectors};
 ghost use Rattle.block_view.specs.declared.fault.ViewFault.TheVariants.{Fault};
 ghost use Rattle.block_view.specs.Changes.{Fits, content_after};
 ghost use Rattle.block_view.specs.Views.{AsksView};
@@ -16,9 +16,7 @@ use crate::finishing::changes_of;
 use crate::order::{find, locate};
 use crate::putting::{first_touch, insert_at, touch_again};
 use crate::touched::Touched;
-use block_view::{View, ViewFault};
-use disk_model::{Block, Body, Change};
-use host_base::Bytes;
+use block_view::{Block, Body, Bytes, Change, View, ViewFault};
 use std::alloc::{AllocError, Global};
 
 /// A plan while it is made, over a view: each block that it touches once, in order of blocks, with

@@ -4,8 +4,7 @@ ghost use Rattle.plan_draft.specs.Touching.{IsWhole};
 ghost use Rattle.plan_draft.specs.Finishing.{same_front, differ_end, change_start, change_end, change_of, changes_in, changes_of};
 
 use crate::touched::Touched;
-use disk_model::Change;
-use host_base::Bytes;
+use block_view::{Bytes, Change};
 use std::alloc::{AllocError, Global};
 
 // How many bytes at the front are the same.

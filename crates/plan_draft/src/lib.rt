@@ -10,8 +10,7 @@ mod putting;
 mod touched;
 mod writing;
 
-pub use block_view::{View, ViewFault};
-pub use disk_model::{Block, BlockKind, Body, Change};
+pub use block_view::{Block, BlockKind, Body, Change, View, ViewFault, u16_at};
 pub use draft::Draft;
 pub use laws::bodies_in_order;
 pub use touched::Touched;

@@ -1,11 +1,11 @@
 //! Touched blocks in their order.
 ghost use Rattle.std.specs.Prelude.{◌≡◌, ◌*◌, ◌<◌, ◌≤◌, true, IfSome, MatchResult, All, length, nat_lt};
 ghost use Rattle.std.specs.Option.{option_copied};
-ghost use Rattle.disk_model.specs.Sectors.{sectors};
+ghost use Rattle.plan_bodies.specs.disk_model.Sectors.{sectors};
 ghost use Rattle.plan_draft.specs.Touching.{kind_place, block_key, keys_of, rises, place_in, touched_at, IsWhole, StandsAt, WouldStandAt};
 
 use crate::touched::Touched;
-use disk_model::{Block, BlockKind};
+use block_view::{Block, BlockKind};
 
 fn kind_place(kind: BlockKind) -> u8
     ensures value { result ≡ kind_place kind }

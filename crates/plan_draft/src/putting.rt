@@ -3,8 +3,7 @@ ghost use Rattle.std.specs.Prelude.{◌≡◌, ◌<◌, ◌≤◌, IfOk, OnOk, O
 ghost use Rattle.plan_draft.specs.Touching.{again_at, first_touch};
 
 use crate::touched::Touched;
-use disk_model::{Block, Body};
-use host_base::Bytes;
+use block_view::{Block, Body, Bytes};
 use std::alloc::{AllocError, Global};
 
 // Makes these bytes the present body of the block at this place. One that was fresh stays so.

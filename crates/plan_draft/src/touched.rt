@@ -1,5 +1,4 @@
-use disk_model::Block;
-use host_base::Bytes;
+use block_view::{Block, Bytes};
 
 /// A block that a plan touches, with its old and its present body.
 #[derive(Debug, Drop)]

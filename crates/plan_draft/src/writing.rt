@@ -1,15 +1,14 @@
 //! Bytes that a draft puts into blocks and streams.
 ghost use Rattle.std.specs.Prelude.{◌≡◌, ◌+◌, ◌*◌, ◌<◌, ◌≤◌, ◌^◌, IfSome, OnOk, OnErr, length};
-ghost use Rattle.disk_model.specs.Bytes.{written};
-ghost use Rattle.disk_model.specs.Sectors.{sectors};
+ghost use Rattle.plan_bodies.specs.disk_model.Bytes.{written};
+ghost use Rattle.plan_bodies.specs.disk_model.Sectors.{sectors};
 ghost use Rattle.block_view.specs.Views.{AsksView};
 ghost use Rattle.plan_draft.specs.Touching.{bodies_of, touch};
 ghost use Rattle.plan_draft.specs.Writing.{present, put_part};
 ghost use Rattle.plan_draft.specs.Faults.{fault_cause};
 
 use crate::draft::Draft;
-use block_view::{View, ViewFault};
-use disk_model::{Block, Body};
+use block_view::{Block, Body, View, ViewFault};
 use std::alloc::Global;
 
 impl<'a, V: View> Draft<'a, V> {

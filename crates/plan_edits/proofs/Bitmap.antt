@@ -8,31 +8,31 @@ use Rattle.disk_model.specs.declared.block.BlockKind.TheVariants.{Plain}
 use Rattle.disk_model.specs.Content.{Content}
 use Rattle.disk_model.specs.Sectors.{sectors, same_block, overlap}
 use Rattle.disk_model.proofs.Frames.{same_block-is}
-use Rattle.record_model.specs.declared.attribute.Attr.{Attr}
-use Rattle.record_model.specs.declared.runs.Run.{Run}
-use Rattle.record_model.specs.Constants.{data_type}
-use Rattle.record_model.specs.Pairs.{Follow, HasSpelling}
-use Rattle.record_model.specs.Records.{Record}
-use Rattle.state_model.specs.declared.geometry.Geometry.{Geometry}
-use Rattle.state_model.specs.declared.stream.Extents.{Extents}
-use Rattle.state_model.specs.declared.stream.Stream.{Stream}
-use Rattle.state_model.specs.declared.stream.Stream.TheVariants.{Placed}
-use Rattle.state_model.specs.Loads.{total_clusters}
-use Rattle.state_model.specs.Streams.{attributes_of, stream_of, holds, lcn_in, block_at}
-use Rattle.volume_model.specs.Volumes.{Volume, bitmap_file, file_in, file_stream}
-use Rattle.volume_model.specs.Sizes.{fits_volume, is_hole, has_hole, keeps_streams, keeps_whole}
-use Rattle.stream_laws.specs.Places.{AreOnce}
-use Rattle.stream_laws.specs.Sharing.{stream_at, runs_in}
-use Rattle.stream_laws.proofs.Changing.{has_sectors}
-use Rattle.stream_laws.proofs.Placing.{one_place}
-use Rattle.stream_laws.proofs.Sharing.{stream_once}
-use Rattle.plan_owners.specs.States.{Stands}
-use Rattle.plan_owners.proofs.Outside.{once}
-use Rattle.plan_owners.proofs.Standing.{streams_at}
-use Rattle.plan_model.proofs.Drafting.{per_is}
-use Rattle.draft_streams.specs.Effects.{HasOwnSectors}
-use Rattle.plan_growth.proofs.Placed.{some_attributes, stream_rule}
-use Rattle.plan_growth.proofs.Ruled.{sizes_lawful}
+use Rattle.plan_values.specs.record_model.declared.attribute.Attr.{Attr}
+use Rattle.plan_values.specs.record_model.declared.runs.Run.{Run}
+use Rattle.plan_values.specs.record_model.Constants.{data_type}
+use Rattle.plan_values.specs.record_model.Pairs.{Follow, HasSpelling}
+use Rattle.plan_values.specs.record_model.Records.{Record}
+use Rattle.plan_values.specs.state_model.declared.geometry.Geometry.{Geometry}
+use Rattle.plan_values.specs.state_model.declared.stream.Extents.{Extents}
+use Rattle.plan_values.specs.state_model.declared.stream.Stream.{Stream}
+use Rattle.plan_values.specs.state_model.declared.stream.Stream.TheVariants.{Placed}
+use Rattle.plan_values.specs.state_model.Loads.{total_clusters}
+use Rattle.plan_values.specs.state_model.Streams.{attributes_of, stream_of, holds, lcn_in, block_at}
+use Rattle.plan_values.specs.volume_model.Volumes.{Volume, bitmap_file, file_in, file_stream}
+use Rattle.plan_values.specs.volume_model.Sizes.{fits_volume, is_hole, has_hole, keeps_streams, keeps_whole}
+use Rattle.plan_values.specs.stream_laws.Places.{AreOnce}
+use Rattle.plan_values.specs.stream_laws.Sharing.{stream_at, runs_in}
+use Rattle.plan_values.proofs.stream_laws.Changing.{has_sectors}
+use Rattle.plan_values.proofs.stream_laws.Placing.{one_place}
+use Rattle.plan_values.proofs.stream_laws.Sharing.{stream_once}
+use Rattle.plan_values.specs.plan_owners.States.{Stands}
+use Rattle.plan_values.proofs.plan_owners.Outside.{once}
+use Rattle.plan_values.proofs.plan_owners.Standing.{streams_at}
+use Rattle.plan_values.proofs.plan_model.Drafting.{per_is}
+use Rattle.draft_resized.specs.draft_streams.Effects.{HasOwnSectors}
+use Rattle.plan_values.proofs.plan_growth.Placed.{some_attributes, stream_rule}
+use Rattle.plan_values.proofs.plan_growth.Ruled.{sizes_lawful}
 use Rattle.plan_edits.specs.Edits.{bitmap_key, HasBitmap, StateHasBitmap}
 
 -- ---- sectors in clusters that lie once

@@ -9,45 +9,45 @@ use Rattle.disk_model.specs.declared.block.Block.{Block}
 use Rattle.disk_model.specs.declared.block.BlockKind.{BlockKind}
 use Rattle.disk_model.specs.declared.block.BlockKind.TheVariants.{Plain, FileRec}
 use Rattle.disk_model.specs.Content.{Content}
-use Rattle.record_model.specs.declared.runs.Run.{Run}
-use Rattle.record_model.specs.Constants.{index_allocation}
-use Rattle.record_model.specs.Pairs.{cluster_limit, HasSpelling}
-use Rattle.record_model.specs.Records.{Record}
+use Rattle.plan_values.specs.record_model.declared.runs.Run.{Run}
+use Rattle.plan_values.specs.record_model.Constants.{index_allocation}
+use Rattle.plan_values.specs.record_model.Pairs.{cluster_limit, HasSpelling}
+use Rattle.plan_values.specs.record_model.Records.{Record}
 use Rattle.bit_set.specs.Bits.{bit}
 use Rattle.bit_set.specs.Words.{is_one, byte_bit}
-use Rattle.state_model.specs.declared.geometry.Geometry.{Geometry}
-use Rattle.state_model.specs.declared.stream.Extents.{Extents}
-use Rattle.state_model.specs.declared.stream.Stream.{Stream}
-use Rattle.state_model.specs.declared.stream.Stream.TheVariants.{Held, Placed}
-use Rattle.state_model.specs.Loads.{Slot, Free, Used, slot_at, table_slot, extents_or, total_clusters}
-use Rattle.state_model.specs.Streams.{block_at, byte_at, extent_bytes}
-use Rattle.volume_model.specs.Volumes.{Volume, bytes_or, cluster_bitmap, cluster_bits}
-use Rattle.volume_model.specs.Owners.{uses}
-use Rattle.stream_laws.specs.Owners.{stream_kind}
-use Rattle.stream_laws.specs.Sharing.{stream_at, runs_in}
-use Rattle.stream_laws.proofs.Bitmapping.{cluster_bit}
-use Rattle.stream_runs.specs.Runs.{front}
-use Rattle.stream_runs.proofs.Merging.{follow-merged, follow-grown}
-use Rattle.stream_runs.proofs.Parts.{follow-front}
-use Rattle.plan_owners.specs.States.{Stands}
-use Rattle.plan_bodies.specs.Bodies.{NewBody, body_in, content_with}
-use Rattle.plan_bodies.proofs.Putting.{either}
-use Rattle.plan_draft.specs.declared.touched.Touched.{Touched}
-use Rattle.plan_draft.specs.Touching.{bodies_of}
-use Rattle.plan_draft.specs.Drafts.{drafted}
-use Rattle.plan_model.specs.Edits.{IsOwnedIn}
-use Rattle.plan_model.specs.Made.{ReadsAs}
-use Rattle.plan_model.proofs.OneRecord.{own_record}
-use Rattle.draft_bits.specs.Effects.{stream_bit}
-use Rattle.draft_records.specs.Records.{record_block, written_record}
-use Rattle.record_streams.specs.Placing.{placed_record}
-use Rattle.resized_streams.specs.declared.resized.Resized.{Resized}
-use Rattle.resized_streams.specs.Resizing.{lengthened, shortened, clusters_for, IsGrown, IsCut}
+use Rattle.plan_values.specs.state_model.declared.geometry.Geometry.{Geometry}
+use Rattle.plan_values.specs.state_model.declared.stream.Extents.{Extents}
+use Rattle.plan_values.specs.state_model.declared.stream.Stream.{Stream}
+use Rattle.plan_values.specs.state_model.declared.stream.Stream.TheVariants.{Held, Placed}
+use Rattle.plan_values.specs.state_model.Loads.{Slot, Free, Used, slot_at, table_slot, extents_or, total_clusters}
+use Rattle.plan_values.specs.state_model.Streams.{block_at, byte_at, extent_bytes}
+use Rattle.plan_values.specs.volume_model.Volumes.{Volume, bytes_or, cluster_bitmap, cluster_bits}
+use Rattle.plan_values.specs.volume_model.Owners.{uses}
+use Rattle.plan_values.specs.stream_laws.Owners.{stream_kind}
+use Rattle.plan_values.specs.stream_laws.Sharing.{stream_at, runs_in}
+use Rattle.plan_values.proofs.stream_laws.Bitmapping.{cluster_bit}
+use Rattle.plan_values.specs.stream_runs.Runs.{front}
+use Rattle.plan_values.proofs.stream_runs.Merging.{follow-merged, follow-grown}
+use Rattle.plan_values.proofs.stream_runs.Parts.{follow-front}
+use Rattle.plan_values.specs.plan_owners.States.{Stands}
+use Rattle.plan_values.specs.plan_bodies.Bodies.{NewBody, body_in, content_with}
+use Rattle.plan_values.proofs.plan_bodies.Putting.{either}
+use Rattle.draft_resized.specs.plan_draft.declared.touched.Touched.{Touched}
+use Rattle.draft_resized.specs.plan_draft.Touching.{bodies_of}
+use Rattle.draft_resized.specs.plan_draft.Drafts.{drafted}
+use Rattle.plan_values.specs.plan_model.Edits.{IsOwnedIn}
+use Rattle.plan_values.specs.plan_model.Made.{ReadsAs}
+use Rattle.plan_values.proofs.plan_model.OneRecord.{own_record}
+use Rattle.draft_resized.specs.draft_bits.Effects.{stream_bit}
+use Rattle.draft_resized.specs.draft_records.Records.{record_block, written_record}
+use Rattle.plan_values.specs.record_streams.Placing.{placed_record}
+use Rattle.plan_values.specs.resized_streams.declared.resized.Resized.{Resized}
+use Rattle.plan_values.specs.resized_streams.Resizing.{lengthened, shortened, clusters_for, IsGrown, IsCut}
 use Rattle.draft_resized.specs.Resized.{resized_bytes}
 use Rattle.draft_resized.proofs.FileEffects.{resized_put}
-use Rattle.plan_growth.specs.Streams.{IsOwnStream, MayTake, marks_streams}
-use Rattle.plan_growth.specs.Growing.{GrowsStream}
-use Rattle.plan_growth.specs.Cutting.{CutsStream}
+use Rattle.plan_values.specs.plan_growth.Streams.{IsOwnStream, MayTake, marks_streams}
+use Rattle.plan_values.specs.plan_growth.Growing.{GrowsStream}
+use Rattle.plan_values.specs.plan_growth.Cutting.{CutsStream}
 use Rattle.plan_edits.specs.Written.{IsInUse}
 use Rattle.plan_edits.specs.Puts.{PutsBlocks, IsSectorOf, IsMirrored}
 use Rattle.plan_edits.specs.Edits.{bitmap_key, mirror_key, HasBitmap, PutsOfVolume, is_marked, IsEdit, ResizedIsEdit}

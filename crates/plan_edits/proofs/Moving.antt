@@ -10,61 +10,61 @@ use Rattle.disk_model.specs.declared.block.BlockKind.{BlockKind}
 use Rattle.disk_model.specs.declared.block.BlockKind.TheVariants.{Plain, FileRec}
 use Rattle.disk_model.specs.Content.{Content}
 use Rattle.disk_model.specs.Sectors.{sectors, same_block, overlap}
-use Rattle.record_model.specs.declared.attribute.Attr.{Attr}
-use Rattle.record_model.specs.declared.record.RecHead.{RecHead}
-use Rattle.record_model.specs.declared.runs.Run.{Run}
-use Rattle.record_model.specs.Constants.{index_allocation}
-use Rattle.record_model.specs.Pairs.{cluster_limit, HasSpelling}
-use Rattle.record_model.specs.Records.{Record}
+use Rattle.plan_values.specs.record_model.declared.attribute.Attr.{Attr}
+use Rattle.plan_values.specs.record_model.declared.record.RecHead.{RecHead}
+use Rattle.plan_values.specs.record_model.declared.runs.Run.{Run}
+use Rattle.plan_values.specs.record_model.Constants.{index_allocation}
+use Rattle.plan_values.specs.record_model.Pairs.{cluster_limit, HasSpelling}
+use Rattle.plan_values.specs.record_model.Records.{Record}
 use Rattle.bit_set.specs.Bits.{bit}
-use Rattle.state_model.specs.declared.geometry.Geometry.{Geometry}
-use Rattle.state_model.specs.declared.stream.Extents.{Extents}
-use Rattle.state_model.specs.declared.stream.Stream.{Stream}
-use Rattle.state_model.specs.declared.stream.Stream.TheVariants.{Held, Placed}
-use Rattle.state_model.specs.Files.{file_at, is_base_record}
-use Rattle.state_model.specs.Loads.{total_clusters, has_fitting_pairs, has_all_pairs}
-use Rattle.state_model.specs.Streams.{attributes_of, stream_of, block_at}
-use Rattle.volume_model.specs.Volumes.{Volume, file_in, file_stream, cluster_bits}
-use Rattle.volume_model.specs.Owners.{volume_runs, uses}
-use Rattle.volume_state.specs.Journals.{limits_name}
-use Rattle.stream_laws.specs.Leaving.{LiesFree}
-use Rattle.stream_laws.specs.Owners.{stream_kind, Owns}
-use Rattle.stream_laws.specs.Replacing.{FileEdit, with_edits}
-use Rattle.stream_laws.specs.Sharing.{stream_at, runs_in}
-use Rattle.stream_laws.proofs.Editing.{edited_files}
-use Rattle.stream_laws.proofs.Leaving.{free_apart, free_in_runs}
-use Rattle.stream_laws.proofs.Placing.{unused}
-use Rattle.stream_laws.proofs.Tabling.{inside_list}
-use Rattle.stream_runs.proofs.Merging.{follow-grown}
-use Rattle.plan_owners.specs.States.{Stands}
-use Rattle.plan_owners.proofs.ByKind.{marked_if_used}
-use Rattle.plan_owners.proofs.Standing.{some_file, as_file}
-use Rattle.plan_bodies.specs.Bodies.{NewBody, AreBodies, body_in, put_bodies, content_with}
-use Rattle.plan_bodies.proofs.Putting.{all_in_both, are_bodies as both_are}
-use Rattle.plan_draft.specs.declared.touched.Touched.{Touched}
-use Rattle.plan_draft.specs.Touching.{bodies_of}
-use Rattle.plan_draft.specs.Drafts.{drafted}
-use Rattle.plan_draft.specs.Same.{PutSame}
-use Rattle.plan_model.specs.Drafts.{IsPut}
-use Rattle.plan_model.specs.Edits.{IsOwnedIn}
-use Rattle.plan_model.specs.Informed.{with_record}
-use Rattle.plan_model.specs.Made.{ReadsAs}
-use Rattle.plan_model.proofs.OneRecord.{OwnRecord, own_record}
-use Rattle.plan_model.proofs.Quiet.{record_owned}
-use Rattle.draft_streams.specs.Parts.{first_sector}
-use Rattle.draft_bits.specs.Effects.{stream_bit, IsKept, IsNoSector}
-use Rattle.draft_bits.proofs.BitEffects.{same_bit}
-use Rattle.draft_records.specs.Records.{written_record}
-use Rattle.record_streams.specs.Placing.{placed_record}
-use Rattle.resized_streams.specs.declared.resized.Resized.{Resized}
-use Rattle.resized_streams.specs.Resizing.{lengthened, unplaced, clusters_for, IsGrown}
+use Rattle.plan_values.specs.state_model.declared.geometry.Geometry.{Geometry}
+use Rattle.plan_values.specs.state_model.declared.stream.Extents.{Extents}
+use Rattle.plan_values.specs.state_model.declared.stream.Stream.{Stream}
+use Rattle.plan_values.specs.state_model.declared.stream.Stream.TheVariants.{Held, Placed}
+use Rattle.plan_values.specs.state_model.Files.{file_at, is_base_record}
+use Rattle.plan_values.specs.state_model.Loads.{total_clusters, has_fitting_pairs, has_all_pairs}
+use Rattle.plan_values.specs.state_model.Streams.{attributes_of, stream_of, block_at}
+use Rattle.plan_values.specs.volume_model.Volumes.{Volume, file_in, file_stream, cluster_bits}
+use Rattle.plan_values.specs.volume_model.Owners.{volume_runs, uses}
+use Rattle.plan_values.specs.volume_state.Journals.{limits_name}
+use Rattle.plan_values.specs.stream_laws.Leaving.{LiesFree}
+use Rattle.plan_values.specs.stream_laws.Owners.{stream_kind, Owns}
+use Rattle.plan_values.specs.stream_laws.Replacing.{FileEdit, with_edits}
+use Rattle.plan_values.specs.stream_laws.Sharing.{stream_at, runs_in}
+use Rattle.plan_values.proofs.stream_laws.Editing.{edited_files}
+use Rattle.plan_values.proofs.stream_laws.Leaving.{free_apart, free_in_runs}
+use Rattle.plan_values.proofs.stream_laws.Placing.{unused}
+use Rattle.plan_values.proofs.stream_laws.Tabling.{inside_list}
+use Rattle.plan_values.proofs.stream_runs.Merging.{follow-grown}
+use Rattle.plan_values.specs.plan_owners.States.{Stands}
+use Rattle.plan_values.proofs.plan_owners.ByKind.{marked_if_used}
+use Rattle.plan_values.proofs.plan_owners.Standing.{some_file, as_file}
+use Rattle.plan_values.specs.plan_bodies.Bodies.{NewBody, AreBodies, body_in, put_bodies, content_with}
+use Rattle.plan_values.proofs.plan_bodies.Putting.{all_in_both, are_bodies as both_are}
+use Rattle.draft_resized.specs.plan_draft.declared.touched.Touched.{Touched}
+use Rattle.draft_resized.specs.plan_draft.Touching.{bodies_of}
+use Rattle.draft_resized.specs.plan_draft.Drafts.{drafted}
+use Rattle.draft_resized.specs.plan_draft.Same.{PutSame}
+use Rattle.plan_values.specs.plan_model.Drafts.{IsPut}
+use Rattle.plan_values.specs.plan_model.Edits.{IsOwnedIn}
+use Rattle.plan_values.specs.plan_model.Informed.{with_record}
+use Rattle.plan_values.specs.plan_model.Made.{ReadsAs}
+use Rattle.plan_values.proofs.plan_model.OneRecord.{OwnRecord, own_record}
+use Rattle.plan_values.proofs.plan_model.Quiet.{record_owned}
+use Rattle.draft_resized.specs.draft_streams.Parts.{first_sector}
+use Rattle.draft_resized.specs.draft_bits.Effects.{stream_bit, IsKept, IsNoSector}
+use Rattle.draft_resized.proofs.draft_bits.BitEffects.{same_bit}
+use Rattle.draft_resized.specs.draft_records.Records.{written_record}
+use Rattle.plan_values.specs.record_streams.Placing.{placed_record}
+use Rattle.plan_values.specs.resized_streams.declared.resized.Resized.{Resized}
+use Rattle.plan_values.specs.resized_streams.Resizing.{lengthened, unplaced, clusters_for, IsGrown}
 use Rattle.draft_resized.proofs.FileEffects.{resized_put}
 use Rattle.draft_resized.proofs.MovedEffects.{moved_put}
-use Rattle.plan_growth.specs.Streams.{IsOwnStream, IsWritten, MayTake, key_of, marks_streams, IsFreshIn}
-use Rattle.plan_growth.specs.Leaving.{MovesValue}
-use Rattle.plan_growth.proofs.Growing.{uses-grown}
-use Rattle.plan_growth.proofs.Placed.{some_attributes, placed_head, placed_all, placed_is_there}
-use Rattle.plan_growth.proofs.Written.{Reads, all_read, placed_reads, written_stream}
+use Rattle.plan_values.specs.plan_growth.Streams.{IsOwnStream, IsWritten, MayTake, key_of, marks_streams, IsFreshIn}
+use Rattle.plan_values.specs.plan_growth.Leaving.{MovesValue}
+use Rattle.plan_values.proofs.plan_growth.Growing.{uses-grown}
+use Rattle.plan_values.proofs.plan_growth.Placed.{some_attributes, placed_head, placed_all, placed_is_there}
+use Rattle.plan_values.proofs.plan_growth.Written.{Reads, all_read, placed_reads, written_stream}
 use Rattle.plan_edits.specs.Written.{IsInUse}
 use Rattle.plan_edits.specs.Puts.{PutsBlocks, IsSectorOf, IsSectorWith}
 use Rattle.plan_edits.specs.Edits.{PutsOfVolume, IsEdit}

@@ -11,29 +11,29 @@ use Rattle.disk_model.specs.Bytes.{written}
 use Rattle.disk_model.specs.Content.{Content, HasSizes}
 use Rattle.disk_model.specs.Sectors.{sectors}
 use Rattle.disk_model.proofs.Frames.{length-written}
-use Rattle.record_model.specs.declared.runs.Run.{Run}
-use Rattle.state_model.specs.declared.stream.Extents.{Extents}
-use Rattle.state_model.specs.Streams.{block_at}
-use Rattle.stream_map.proofs.Reading.{kind-block_at}
-use Rattle.plan_bodies.specs.Bodies.{NewBody, AreBodies, body_in, body_or, put_bodies, content_with}
-use Rattle.plan_bodies.proofs.Putting.{body_put, block_itself, sized_with, either, all_in_both, are_bodies as both_are, contents_put}
-use Rattle.plan_draft.specs.declared.touched.Touched.{Touched}
-use Rattle.plan_draft.specs.Touching.{bodies_of, touch}
-use Rattle.plan_draft.specs.Drafts.{drafted}
-use Rattle.plan_draft.specs.Same.{PutSame}
-use Rattle.plan_draft.specs.Writing.{zeros_or, present}
-use Rattle.plan_draft.proofs.Parts.{zeros_long}
-use Rattle.plan_draft.proofs.Puts.{bodies_touch, rises_touch, whole_touch}
-use Rattle.plan_draft.proofs.Same.{same_content, put_same}
-use Rattle.plan_draft.proofs.Touching.{are_bodies}
-use Rattle.plan_model.specs.Drafts.{IsPut}
-use Rattle.draft_streams.specs.Parts.{offset_in, bytes_in, touch_part, touch_sectors, first_sector, sector_count, touch_bytes}
-use Rattle.draft_bits.specs.Filling.{first_past}
-use Rattle.draft_bits.specs.Effects.{IsKept}
-use Rattle.draft_records.specs.Records.{record_block, is_past, has_mirror, touch_if, touch_record}
-use Rattle.draft_records.proofs.Steps.{kind_of_size}
-use Rattle.resized_streams.specs.declared.resized.Resized.{Resized}
-use Rattle.draft_runs.specs.Clusters.{PutsClusters, PutsRuns}
+use Rattle.plan_values.specs.record_model.declared.runs.Run.{Run}
+use Rattle.plan_values.specs.state_model.declared.stream.Extents.{Extents}
+use Rattle.plan_values.specs.state_model.Streams.{block_at}
+use Rattle.plan_values.proofs.stream_map.Reading.{kind-block_at}
+use Rattle.plan_values.specs.plan_bodies.Bodies.{NewBody, AreBodies, body_in, body_or, put_bodies, content_with}
+use Rattle.plan_values.proofs.plan_bodies.Putting.{body_put, block_itself, sized_with, either, all_in_both, are_bodies as both_are, contents_put}
+use Rattle.draft_resized.specs.plan_draft.declared.touched.Touched.{Touched}
+use Rattle.draft_resized.specs.plan_draft.Touching.{bodies_of, touch}
+use Rattle.draft_resized.specs.plan_draft.Drafts.{drafted}
+use Rattle.draft_resized.specs.plan_draft.Same.{PutSame}
+use Rattle.draft_resized.specs.plan_draft.Writing.{zeros_or, present}
+use Rattle.draft_resized.proofs.plan_draft.Parts.{zeros_long}
+use Rattle.draft_resized.proofs.plan_draft.Puts.{bodies_touch, rises_touch, whole_touch}
+use Rattle.draft_resized.proofs.plan_draft.Same.{same_content, put_same}
+use Rattle.draft_resized.proofs.plan_draft.Touching.{are_bodies}
+use Rattle.plan_values.specs.plan_model.Drafts.{IsPut}
+use Rattle.draft_resized.specs.draft_streams.Parts.{offset_in, bytes_in, touch_part, touch_sectors, first_sector, sector_count, touch_bytes}
+use Rattle.draft_resized.specs.draft_bits.Filling.{first_past}
+use Rattle.draft_resized.specs.draft_bits.Effects.{IsKept}
+use Rattle.draft_resized.specs.draft_records.Records.{record_block, is_past, has_mirror, touch_if, touch_record}
+use Rattle.draft_resized.proofs.draft_records.Steps.{kind_of_size}
+use Rattle.plan_values.specs.resized_streams.declared.resized.Resized.{Resized}
+use Rattle.draft_resized.specs.draft_runs.Clusters.{PutsClusters, PutsRuns}
 use Rattle.draft_resized.specs.Resized.{resized_bytes, with_file}
 use Rattle.draft_resized.specs.Effects.{PutsWhole}
 use Rattle.draft_resized.proofs.FileEffects.{long_of}

@@ -10,29 +10,29 @@ use Rattle.disk_model.specs.declared.block.Block.{Block}
 use Rattle.disk_model.specs.Numbers.{field}
 use Rattle.disk_model.specs.Content.{Content, is_signed}
 use Rattle.disk_model.specs.declared.block.Body.{Body}
-use Rattle.record_model.specs.declared.attribute.Attr.{Attr}
-use Rattle.record_model.specs.declared.record.RecHead.{RecHead}
-use Rattle.record_model.specs.Pairs.{runs_of, pairs_of, HasSpelling}
-use Rattle.record_model.specs.Records.{Record, record_at, shaped_at, rec_head_of, has_in_use_flag, has_lawful_values, record_spelling, FitsRecord}
-use Rattle.record_model.proofs.PairsRead.{spelled_read}
-use Rattle.record_model.proofs.PairsSpelled.{written_spelled}
-use Rattle.record_model.proofs.RecordSpelling.{spelling_signed, record_spells}
-use Rattle.record_model.proofs.Answering.{steps_from_ok, needs_from_ok}
-use Rattle.record_model.proofs.Records.{passed_from_ok}
-use Rattle.record_model.proofs.Shapes.{is_shaped}
-use Rattle.record_writer.specs.NormalLaws.{FitsByRoom}
-use Rattle.record_writer.proofs.Again.{read_again}
-use Rattle.record_writer.proofs.Staying.{all_stand}
-use Rattle.state_model.specs.declared.stream.Extents.{Extents}
-use Rattle.state_model.specs.Loads.{Slot, Free, Used, slot_in, slot_of, slot_at, is_used, whole_record, table_slot, total_clusters, span, has_fitting_pairs, has_all_pairs}
-use Rattle.state_model.specs.Streams.{attributes_of, block_at}
+use Rattle.plan_values.specs.record_model.declared.attribute.Attr.{Attr}
+use Rattle.plan_values.specs.record_model.declared.record.RecHead.{RecHead}
+use Rattle.plan_values.specs.record_model.Pairs.{runs_of, pairs_of, HasSpelling}
+use Rattle.plan_values.specs.record_model.Records.{Record, record_at, shaped_at, rec_head_of, has_in_use_flag, has_lawful_values, record_spelling, FitsRecord}
+use Rattle.plan_values.proofs.record_model.PairsRead.{spelled_read}
+use Rattle.plan_values.proofs.record_model.PairsSpelled.{written_spelled}
+use Rattle.plan_values.proofs.record_model.RecordSpelling.{spelling_signed, record_spells}
+use Rattle.plan_values.proofs.record_model.Answering.{steps_from_ok, needs_from_ok}
+use Rattle.plan_values.proofs.record_model.Records.{passed_from_ok}
+use Rattle.plan_values.proofs.record_model.Shapes.{is_shaped}
+use Rattle.plan_values.specs.record_writer.NormalLaws.{FitsByRoom}
+use Rattle.plan_values.proofs.record_writer.Again.{read_again}
+use Rattle.plan_values.proofs.record_writer.Staying.{all_stand}
+use Rattle.plan_values.specs.state_model.declared.stream.Extents.{Extents}
+use Rattle.plan_values.specs.state_model.Loads.{Slot, Free, Used, slot_in, slot_of, slot_at, is_used, whole_record, table_slot, total_clusters, span, has_fitting_pairs, has_all_pairs}
+use Rattle.plan_values.specs.state_model.Streams.{attributes_of, block_at}
 use Rattle.disk_model.specs.declared.block.BlockKind.TheVariants.{FileRec}
-use Rattle.stream_laws.proofs.Tabling.{read_in_use}
-use Rattle.record_streams.specs.Placing.{last_vcn, placed_sizes, placed_attr, placed_first, placed_record, unit_of}
-use Rattle.draft_records.specs.Records.{written_record, written_bytes, fits_room}
-use Rattle.draft_records.proofs.Written.{fits_written, room_full}
-use Rattle.plan_growth.proofs.Placed.{placed_all, placed_head}
-use Rattle.plan_growth.specs.Streams.{IsWritten}
+use Rattle.plan_values.proofs.stream_laws.Tabling.{read_in_use}
+use Rattle.plan_values.specs.record_streams.Placing.{last_vcn, placed_sizes, placed_attr, placed_first, placed_record, unit_of}
+use Rattle.draft_resized.specs.draft_records.Records.{written_record, written_bytes, fits_room}
+use Rattle.draft_resized.proofs.draft_records.Written.{fits_written, room_full}
+use Rattle.plan_values.proofs.plan_growth.Placed.{placed_all, placed_head}
+use Rattle.plan_values.specs.plan_growth.Streams.{IsWritten}
 use Rattle.plan_edits.specs.Written.{IsInUse, WrittenIsRead}
 
 -- ---- the steps of a reader

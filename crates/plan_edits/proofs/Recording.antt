@@ -7,32 +7,32 @@ use Rattle.disk_model.specs.declared.block.BlockKind.TheVariants.{Plain, FileRec
 use Rattle.disk_model.specs.Bodies.{BodyOf}
 use Rattle.disk_model.specs.Content.{Content, HasSizes}
 use Rattle.disk_model.specs.Sectors.{same_block, same_kind}
-use Rattle.record_model.specs.declared.runs.Run.{Run}
-use Rattle.record_model.specs.Records.{Record, record_spelling}
-use Rattle.state_model.specs.declared.stream.Extents.{Extents}
-use Rattle.state_model.specs.declared.stream.Stream.{Stream}
-use Rattle.state_model.specs.declared.stream.Stream.TheVariants.{Held, Placed}
-use Rattle.state_model.specs.Streams.{block_at}
-use Rattle.volume_model.specs.Volumes.{Volume, cluster_bits}
-use Rattle.stream_laws.specs.Frames.{SameBytesInSome}
-use Rattle.stream_laws.specs.Sharing.{stream_at, runs_in}
-use Rattle.stream_laws.proofs.Loading.{same_cluster_bits}
-use Rattle.stream_map.proofs.Reading.{kind-block_at}
-use Rattle.plan_bodies.specs.Bodies.{NewBody, body_in, content_with}
-use Rattle.plan_bodies.proofs.Putting.{block_itself, either}
-use Rattle.plan_draft.specs.declared.touched.Touched.{Touched}
-use Rattle.plan_draft.specs.Touching.{bodies_of, touch}
-use Rattle.plan_draft.specs.Drafts.{drafted}
-use Rattle.plan_draft.proofs.Puts.{bodies_touch}
-use Rattle.plan_draft.proofs.Same.{one_in_order}
-use Rattle.plan_model.specs.Edits.{IsOwnedIn}
-use Rattle.plan_model.specs.Made.{ReadsAs}
-use Rattle.plan_model.proofs.OneRecord.{own_record}
-use Rattle.draft_bits.specs.Effects.{IsKept, IsNoSector}
-use Rattle.draft_bits.proofs.BitEffects.{drafted_same}
-use Rattle.draft_records.specs.Records.{record_block, is_past, has_mirror, written_record, touch_if, touch_record}
+use Rattle.plan_values.specs.record_model.declared.runs.Run.{Run}
+use Rattle.plan_values.specs.record_model.Records.{Record, record_spelling}
+use Rattle.plan_values.specs.state_model.declared.stream.Extents.{Extents}
+use Rattle.plan_values.specs.state_model.declared.stream.Stream.{Stream}
+use Rattle.plan_values.specs.state_model.declared.stream.Stream.TheVariants.{Held, Placed}
+use Rattle.plan_values.specs.state_model.Streams.{block_at}
+use Rattle.plan_values.specs.volume_model.Volumes.{Volume, cluster_bits}
+use Rattle.plan_values.specs.stream_laws.Frames.{SameBytesInSome}
+use Rattle.plan_values.specs.stream_laws.Sharing.{stream_at, runs_in}
+use Rattle.plan_values.proofs.stream_laws.Loading.{same_cluster_bits}
+use Rattle.plan_values.proofs.stream_map.Reading.{kind-block_at}
+use Rattle.plan_values.specs.plan_bodies.Bodies.{NewBody, body_in, content_with}
+use Rattle.plan_values.proofs.plan_bodies.Putting.{block_itself, either}
+use Rattle.draft_resized.specs.plan_draft.declared.touched.Touched.{Touched}
+use Rattle.draft_resized.specs.plan_draft.Touching.{bodies_of, touch}
+use Rattle.draft_resized.specs.plan_draft.Drafts.{drafted}
+use Rattle.draft_resized.proofs.plan_draft.Puts.{bodies_touch}
+use Rattle.draft_resized.proofs.plan_draft.Same.{one_in_order}
+use Rattle.plan_values.specs.plan_model.Edits.{IsOwnedIn}
+use Rattle.plan_values.specs.plan_model.Made.{ReadsAs}
+use Rattle.plan_values.proofs.plan_model.OneRecord.{own_record}
+use Rattle.draft_resized.specs.draft_bits.Effects.{IsKept, IsNoSector}
+use Rattle.draft_resized.proofs.draft_bits.BitEffects.{drafted_same}
+use Rattle.draft_resized.specs.draft_records.Records.{record_block, is_past, has_mirror, written_record, touch_if, touch_record}
 use Rattle.draft_resized.proofs.FileEffects.{long_of, away_both}
-use Rattle.plan_growth.specs.Streams.{marks_streams}
+use Rattle.plan_values.specs.plan_growth.Streams.{marks_streams}
 use Rattle.plan_edits.specs.Written.{IsInUse}
 use Rattle.plan_edits.specs.Puts.{PutsBlocks, IsMirrored}
 use Rattle.plan_edits.specs.Edits.{bitmap_key}

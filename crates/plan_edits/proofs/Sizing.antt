@@ -13,49 +13,49 @@ use Rattle.disk_model.specs.declared.block.BlockKind.TheVariants.{Plain, FileRec
 use Rattle.disk_model.specs.Bodies.{BodyOf}
 use Rattle.disk_model.specs.Content.{Content}
 use Rattle.disk_model.specs.Sectors.{sectors, same_block, overlap}
-use Rattle.record_model.specs.Constants.{index_allocation}
-use Rattle.record_model.specs.Records.{Record}
+use Rattle.plan_values.specs.record_model.Constants.{index_allocation}
+use Rattle.plan_values.specs.record_model.Records.{Record}
 use Rattle.bit_set.specs.Bits.{bit}
-use Rattle.state_model.specs.declared.geometry.Geometry.{Geometry}
-use Rattle.state_model.specs.declared.stream.Extents.{Extents}
-use Rattle.state_model.specs.declared.stream.Stream.{Stream}
-use Rattle.state_model.specs.declared.stream.Stream.TheVariants.{Placed}
-use Rattle.state_model.specs.Loads.{total_clusters}
-use Rattle.state_model.specs.Streams.{block_at, byte_at, extent_bytes, sector_bytes}
-use Rattle.volume_model.specs.Volumes.{Volume, file_stream, bytes_or, cluster_bits}
-use Rattle.volume_model.specs.Sizes.{has_hole, lies_inside, has_sizes}
-use Rattle.stream_laws.specs.Owners.{holds_records, stream_kind}
-use Rattle.stream_laws.specs.Places.{AreOnce}
-use Rattle.stream_laws.specs.Sharing.{StreamKey, stream_at, runs_in}
-use Rattle.stream_laws.proofs.Sharing.{stream_once, stream_blocks_apart}
-use Rattle.stream_map.proofs.Reading.{kind-block_at}
-use Rattle.plan_owners.specs.States.{Stands}
-use Rattle.plan_owners.proofs.Outside.{once}
-use Rattle.plan_bodies.specs.Bodies.{NewBody, AreBodies, body_in, put_bodies, content_with}
-use Rattle.plan_bodies.proofs.Putting.{all_in_both, are_bodies as both_are, sized_with}
-use Rattle.plan_draft.specs.declared.touched.Touched.{Touched}
-use Rattle.plan_draft.specs.Touching.{bodies_of}
-use Rattle.plan_draft.specs.Drafts.{drafted}
-use Rattle.plan_draft.specs.Same.{PutSame}
-use Rattle.plan_draft.specs.Writing.{present}
-use Rattle.plan_model.specs.Drafts.{IsPut}
-use Rattle.plan_model.specs.Edits.{IsOwnedIn}
-use Rattle.plan_model.specs.Informed.{with_record}
-use Rattle.plan_model.specs.Made.{ReadsAs}
-use Rattle.plan_model.proofs.Drafting.{per_is}
-use Rattle.plan_model.proofs.OneRecord.{OwnRecord, own_record}
-use Rattle.draft_streams.specs.Parts.{first_sector, sector_count, touch_bytes}
-use Rattle.draft_streams.specs.Effects.{HasOwnSectors, byte_put}
-use Rattle.draft_streams.proofs.Effecting.{effects}
-use Rattle.draft_bits.specs.Effects.{IsKept}
-use Rattle.draft_bits.proofs.BitEffects.{byte_of, byte_there, drafted_same}
-use Rattle.draft_records.specs.Records.{written_record}
-use Rattle.resized_streams.specs.declared.resized.Resized.{Resized}
-use Rattle.resized_streams.specs.Resizing.{with_sizes}
-use Rattle.plan_growth.specs.Streams.{key_of, marks_streams}
-use Rattle.plan_growth.specs.Sizing.{marks_and, CoversNew, SizesStream}
-use Rattle.plan_growth.proofs.Ruled.{stream_fits, sizes_lawful}
-use Rattle.plan_growth.proofs.Sizing.{sized_stream}
+use Rattle.plan_values.specs.state_model.declared.geometry.Geometry.{Geometry}
+use Rattle.plan_values.specs.state_model.declared.stream.Extents.{Extents}
+use Rattle.plan_values.specs.state_model.declared.stream.Stream.{Stream}
+use Rattle.plan_values.specs.state_model.declared.stream.Stream.TheVariants.{Placed}
+use Rattle.plan_values.specs.state_model.Loads.{total_clusters}
+use Rattle.plan_values.specs.state_model.Streams.{block_at, byte_at, extent_bytes, sector_bytes}
+use Rattle.plan_values.specs.volume_model.Volumes.{Volume, file_stream, bytes_or, cluster_bits}
+use Rattle.plan_values.specs.volume_model.Sizes.{has_hole, lies_inside, has_sizes}
+use Rattle.plan_values.specs.stream_laws.Owners.{holds_records, stream_kind}
+use Rattle.plan_values.specs.stream_laws.Places.{AreOnce}
+use Rattle.plan_values.specs.stream_laws.Sharing.{StreamKey, stream_at, runs_in}
+use Rattle.plan_values.proofs.stream_laws.Sharing.{stream_once, stream_blocks_apart}
+use Rattle.plan_values.proofs.stream_map.Reading.{kind-block_at}
+use Rattle.plan_values.specs.plan_owners.States.{Stands}
+use Rattle.plan_values.proofs.plan_owners.Outside.{once}
+use Rattle.plan_values.specs.plan_bodies.Bodies.{NewBody, AreBodies, body_in, put_bodies, content_with}
+use Rattle.plan_values.proofs.plan_bodies.Putting.{all_in_both, are_bodies as both_are, sized_with}
+use Rattle.draft_resized.specs.plan_draft.declared.touched.Touched.{Touched}
+use Rattle.draft_resized.specs.plan_draft.Touching.{bodies_of}
+use Rattle.draft_resized.specs.plan_draft.Drafts.{drafted}
+use Rattle.draft_resized.specs.plan_draft.Same.{PutSame}
+use Rattle.draft_resized.specs.plan_draft.Writing.{present}
+use Rattle.plan_values.specs.plan_model.Drafts.{IsPut}
+use Rattle.plan_values.specs.plan_model.Edits.{IsOwnedIn}
+use Rattle.plan_values.specs.plan_model.Informed.{with_record}
+use Rattle.plan_values.specs.plan_model.Made.{ReadsAs}
+use Rattle.plan_values.proofs.plan_model.Drafting.{per_is}
+use Rattle.plan_values.proofs.plan_model.OneRecord.{OwnRecord, own_record}
+use Rattle.draft_resized.specs.draft_streams.Parts.{first_sector, sector_count, touch_bytes}
+use Rattle.draft_resized.specs.draft_streams.Effects.{HasOwnSectors, byte_put}
+use Rattle.draft_resized.proofs.draft_streams.Effecting.{effects}
+use Rattle.draft_resized.specs.draft_bits.Effects.{IsKept}
+use Rattle.draft_resized.proofs.draft_bits.BitEffects.{byte_of, byte_there, drafted_same}
+use Rattle.draft_resized.specs.draft_records.Records.{written_record}
+use Rattle.plan_values.specs.resized_streams.declared.resized.Resized.{Resized}
+use Rattle.plan_values.specs.resized_streams.Resizing.{with_sizes}
+use Rattle.plan_values.specs.plan_growth.Streams.{key_of, marks_streams}
+use Rattle.plan_values.specs.plan_growth.Sizing.{marks_and, CoversNew, SizesStream}
+use Rattle.plan_values.proofs.plan_growth.Ruled.{stream_fits, sizes_lawful}
+use Rattle.plan_values.proofs.plan_growth.Sizing.{sized_stream}
 use Rattle.plan_edits.specs.Written.{IsInUse}
 use Rattle.plan_edits.specs.Puts.{PutsBlocks, IsSectorOf, IsSectorWith}
 use Rattle.plan_edits.specs.Edits.{bitmap_key}

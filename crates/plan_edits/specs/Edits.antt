@@ -2,34 +2,34 @@
 use Rattle.std.specs.Prelude.{◌≡◌, ◌≢◌, ℕ, ◌+◌, ◌*◌, ◌≤◌, ◌<◌, ◌&&◌, ◌||◌, not, nat_le, is_some, Bool, true, List, [], Some}
 use Rattle.disk_model.specs.declared.block.BlockKind.TheVariants.{Plain}
 use Rattle.disk_model.specs.Content.{Content}
-use Rattle.record_model.specs.declared.runs.Run.{Run}
-use Rattle.record_model.specs.Constants.{data_type, index_allocation}
-use Rattle.record_model.specs.Pairs.{cluster_limit, HasSpelling}
-use Rattle.record_model.specs.Records.{Record}
+use Rattle.plan_values.specs.record_model.declared.runs.Run.{Run}
+use Rattle.plan_values.specs.record_model.Constants.{data_type, index_allocation}
+use Rattle.plan_values.specs.record_model.Pairs.{cluster_limit, HasSpelling}
+use Rattle.plan_values.specs.record_model.Records.{Record}
 use Rattle.bit_set.specs.Bits.{bit}
-use Rattle.state_model.specs.declared.geometry.Geometry.{Geometry}
-use Rattle.state_model.specs.declared.stream.Extents.{Extents}
-use Rattle.state_model.specs.declared.stream.Stream.TheVariants.{Placed}
-use Rattle.state_model.specs.Loads.{extents_or, total_clusters}
-use Rattle.state_model.specs.Streams.{block_at}
-use Rattle.volume_model.specs.Volumes.{Volume, mirror_file, bitmap_file, cluster_bits}
-use Rattle.volume_model.specs.Owners.{uses}
-use Rattle.stream_laws.specs.Sharing.{StreamKey, stream_at}
-use Rattle.plan_owners.specs.States.{Stands}
-use Rattle.plan_bodies.specs.Bodies.{NewBody, put_bodies, content_with}
-use Rattle.plan_draft.specs.declared.touched.Touched.{Touched}
-use Rattle.plan_draft.specs.Touching.{bodies_of}
-use Rattle.plan_draft.specs.Drafts.{drafted}
-use Rattle.plan_draft.specs.Same.{PutSame}
-use Rattle.draft_streams.specs.Effects.{HasOwnSectors}
-use Rattle.draft_bits.specs.Effects.{stream_bit}
-use Rattle.draft_records.specs.Records.{record_block, written_record}
-use Rattle.resized_streams.specs.declared.resized.Resized.{Resized}
-use Rattle.resized_streams.specs.Resizing.{IsGrown, IsCut}
+use Rattle.plan_values.specs.state_model.declared.geometry.Geometry.{Geometry}
+use Rattle.plan_values.specs.state_model.declared.stream.Extents.{Extents}
+use Rattle.plan_values.specs.state_model.declared.stream.Stream.TheVariants.{Placed}
+use Rattle.plan_values.specs.state_model.Loads.{extents_or, total_clusters}
+use Rattle.plan_values.specs.state_model.Streams.{block_at}
+use Rattle.plan_values.specs.volume_model.Volumes.{Volume, mirror_file, bitmap_file, cluster_bits}
+use Rattle.plan_values.specs.volume_model.Owners.{uses}
+use Rattle.plan_values.specs.stream_laws.Sharing.{StreamKey, stream_at}
+use Rattle.plan_values.specs.plan_owners.States.{Stands}
+use Rattle.plan_values.specs.plan_bodies.Bodies.{NewBody, put_bodies, content_with}
+use Rattle.draft_resized.specs.plan_draft.declared.touched.Touched.{Touched}
+use Rattle.draft_resized.specs.plan_draft.Touching.{bodies_of}
+use Rattle.draft_resized.specs.plan_draft.Drafts.{drafted}
+use Rattle.draft_resized.specs.plan_draft.Same.{PutSame}
+use Rattle.draft_resized.specs.draft_streams.Effects.{HasOwnSectors}
+use Rattle.draft_resized.specs.draft_bits.Effects.{stream_bit}
+use Rattle.draft_resized.specs.draft_records.Records.{record_block, written_record}
+use Rattle.plan_values.specs.resized_streams.declared.resized.Resized.{Resized}
+use Rattle.plan_values.specs.resized_streams.Resizing.{IsGrown, IsCut}
 use Rattle.draft_resized.specs.Effects.{PutsWhole}
-use Rattle.plan_growth.specs.Streams.{IsOwnStream, MayTake, marks_streams, PutsFile}
-use Rattle.plan_growth.specs.Growing.{GrowsStream}
-use Rattle.plan_growth.specs.Cutting.{CutsStream}
+use Rattle.plan_values.specs.plan_growth.Streams.{IsOwnStream, MayTake, marks_streams, PutsFile}
+use Rattle.plan_values.specs.plan_growth.Growing.{GrowsStream}
+use Rattle.plan_values.specs.plan_growth.Cutting.{CutsStream}
 use Rattle.plan_edits.specs.Written.{IsInUse}
 
 -- the unnamed data of $Bitmap, and that of $MFTMirr

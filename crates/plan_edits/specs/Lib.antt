@@ -1,3 +1,28 @@
+pub use Rattle.draft_resized.specs as draft_resized
+pub use Rattle.draft_resized.specs.draft_bits
+pub use Rattle.draft_resized.specs.draft_records
+pub use Rattle.draft_resized.specs.draft_runs
+pub use Rattle.draft_resized.specs.draft_streams
+pub use Rattle.draft_resized.specs.plan_draft
+pub use Rattle.plan_values.specs as plan_values
+pub use Rattle.plan_values.specs.index_change
+pub use Rattle.plan_values.specs.index_model
+pub use Rattle.plan_values.specs.index_tree
+pub use Rattle.plan_values.specs.plan_bodies
+pub use Rattle.plan_values.specs.plan_growth
+pub use Rattle.plan_values.specs.plan_model
+pub use Rattle.plan_values.specs.plan_owners
+pub use Rattle.plan_values.specs.record_model
+pub use Rattle.plan_values.specs.record_streams
+pub use Rattle.plan_values.specs.record_writer
+pub use Rattle.plan_values.specs.resized_streams
+pub use Rattle.plan_values.specs.space_model
+pub use Rattle.plan_values.specs.state_model
+pub use Rattle.plan_values.specs.stream_laws
+pub use Rattle.plan_values.specs.stream_runs
+pub use Rattle.plan_values.specs.tree_laws
+pub use Rattle.plan_values.specs.volume_model
+pub use Rattle.plan_values.specs.volume_state
 pub mod Written
 pub mod Puts
 pub mod Edits

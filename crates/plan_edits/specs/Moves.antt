@@ -2,30 +2,30 @@
 use Rattle.std.specs.Prelude.{◌≡◌, ◌≢◌, ◌≤◌, ℕ, List, length}
 use Rattle.disk_model.specs.declared.block.BlockKind.TheVariants.{Plain}
 use Rattle.disk_model.specs.Content.{Content}
-use Rattle.record_model.specs.declared.runs.Run.{Run}
-use Rattle.record_model.specs.Constants.{index_allocation}
-use Rattle.record_model.specs.Pairs.{cluster_limit}
-use Rattle.record_model.specs.Records.{Record}
-use Rattle.state_model.specs.declared.geometry.Geometry.{Geometry}
-use Rattle.state_model.specs.declared.stream.Extents.{Extents}
-use Rattle.state_model.specs.declared.stream.Stream.TheVariants.{Held}
-use Rattle.state_model.specs.Loads.{extents_or, total_clusters}
-use Rattle.volume_model.specs.Volumes.{Volume, cluster_bits}
-use Rattle.volume_state.specs.Journals.{limits_name}
-use Rattle.stream_laws.specs.Owners.{stream_kind}
-use Rattle.stream_laws.specs.Sharing.{stream_at}
-use Rattle.plan_owners.specs.States.{Stands}
-use Rattle.plan_bodies.specs.Bodies.{NewBody, put_bodies, content_with}
-use Rattle.plan_draft.specs.declared.touched.Touched.{Touched}
-use Rattle.plan_draft.specs.Touching.{bodies_of}
-use Rattle.plan_draft.specs.Drafts.{drafted}
-use Rattle.plan_draft.specs.Same.{PutSame}
-use Rattle.draft_records.specs.Records.{written_record}
-use Rattle.resized_streams.specs.declared.resized.Resized.{Resized}
-use Rattle.resized_streams.specs.Resizing.{IsGrown, clusters_for, unplaced}
+use Rattle.plan_values.specs.record_model.declared.runs.Run.{Run}
+use Rattle.plan_values.specs.record_model.Constants.{index_allocation}
+use Rattle.plan_values.specs.record_model.Pairs.{cluster_limit}
+use Rattle.plan_values.specs.record_model.Records.{Record}
+use Rattle.plan_values.specs.state_model.declared.geometry.Geometry.{Geometry}
+use Rattle.plan_values.specs.state_model.declared.stream.Extents.{Extents}
+use Rattle.plan_values.specs.state_model.declared.stream.Stream.TheVariants.{Held}
+use Rattle.plan_values.specs.state_model.Loads.{extents_or, total_clusters}
+use Rattle.plan_values.specs.volume_model.Volumes.{Volume, cluster_bits}
+use Rattle.plan_values.specs.volume_state.Journals.{limits_name}
+use Rattle.plan_values.specs.stream_laws.Owners.{stream_kind}
+use Rattle.plan_values.specs.stream_laws.Sharing.{stream_at}
+use Rattle.plan_values.specs.plan_owners.States.{Stands}
+use Rattle.plan_values.specs.plan_bodies.Bodies.{NewBody, put_bodies, content_with}
+use Rattle.draft_resized.specs.plan_draft.declared.touched.Touched.{Touched}
+use Rattle.draft_resized.specs.plan_draft.Touching.{bodies_of}
+use Rattle.draft_resized.specs.plan_draft.Drafts.{drafted}
+use Rattle.draft_resized.specs.plan_draft.Same.{PutSame}
+use Rattle.draft_resized.specs.draft_records.Records.{written_record}
+use Rattle.plan_values.specs.resized_streams.declared.resized.Resized.{Resized}
+use Rattle.plan_values.specs.resized_streams.Resizing.{IsGrown, clusters_for, unplaced}
 use Rattle.draft_resized.specs.Effects.{MovesWhole}
-use Rattle.plan_growth.specs.Streams.{IsOwnStream, MayTake, key_of}
-use Rattle.plan_growth.specs.Leaving.{MovesValue}
+use Rattle.plan_values.specs.plan_growth.Streams.{IsOwnStream, MayTake, key_of}
+use Rattle.plan_values.specs.plan_growth.Leaving.{MovesValue}
 use Rattle.plan_edits.specs.Edits.{mirror_key, HasBitmap}
 
 -- A value is put into a draft behind its file, in a volume of which the bitmap, the file table and its mirror are these.

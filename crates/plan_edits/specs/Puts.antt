@@ -4,19 +4,19 @@ use Rattle.std.specs.List.{AllByRecursion}
 use Rattle.disk_model.specs.declared.block.Block.{Block}
 use Rattle.disk_model.specs.declared.block.BlockKind.TheVariants.{Plain}
 use Rattle.disk_model.specs.Content.{Content, HasSizes}
-use Rattle.record_model.specs.declared.runs.Run.{Run}
-use Rattle.state_model.specs.declared.stream.Extents.{Extents}
-use Rattle.state_model.specs.Streams.{block_at}
-use Rattle.plan_bodies.specs.Bodies.{NewBody, AreBodies, put_bodies, content_with}
-use Rattle.plan_draft.specs.declared.touched.Touched.{Touched}
-use Rattle.plan_draft.specs.Touching.{bodies_of}
-use Rattle.plan_draft.specs.Drafts.{drafted}
-use Rattle.plan_draft.specs.Same.{PutSame}
-use Rattle.plan_model.specs.Drafts.{IsPut}
-use Rattle.draft_streams.specs.Parts.{first_sector, sector_count, touch_bytes}
-use Rattle.draft_bits.specs.Effects.{IsKept}
-use Rattle.draft_records.specs.Records.{record_block, has_mirror, touch_record}
-use Rattle.resized_streams.specs.declared.resized.Resized.{Resized}
+use Rattle.plan_values.specs.record_model.declared.runs.Run.{Run}
+use Rattle.plan_values.specs.state_model.declared.stream.Extents.{Extents}
+use Rattle.plan_values.specs.state_model.Streams.{block_at}
+use Rattle.plan_values.specs.plan_bodies.Bodies.{NewBody, AreBodies, put_bodies, content_with}
+use Rattle.draft_resized.specs.plan_draft.declared.touched.Touched.{Touched}
+use Rattle.draft_resized.specs.plan_draft.Touching.{bodies_of}
+use Rattle.draft_resized.specs.plan_draft.Drafts.{drafted}
+use Rattle.draft_resized.specs.plan_draft.Same.{PutSame}
+use Rattle.plan_values.specs.plan_model.Drafts.{IsPut}
+use Rattle.draft_resized.specs.draft_streams.Parts.{first_sector, sector_count, touch_bytes}
+use Rattle.draft_resized.specs.draft_bits.Effects.{IsKept}
+use Rattle.draft_resized.specs.draft_records.Records.{record_block, has_mirror, touch_record}
+use Rattle.plan_values.specs.resized_streams.declared.resized.Resized.{Resized}
 use Rattle.draft_resized.specs.Effects.{PutsWhole}
 
 -- Whole bodies make of what a draft touched before what it touches behind an edit. They are of blocks that are among the first of these,

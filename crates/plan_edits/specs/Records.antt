@@ -1,22 +1,22 @@
 -- A record that a draft has put is an edit of a plan.
 use Rattle.std.specs.Prelude.{◌≡◌, ℕ, false, List, Ok, Some}
 use Rattle.disk_model.specs.Content.{Content, HasSizes}
-use Rattle.record_model.specs.Constants.{attribute_list}
-use Rattle.record_model.specs.Records.{Record, record_spelling}
-use Rattle.record_writer.specs.NormalLaws.{FitsByRoom}
-use Rattle.state_model.specs.declared.geometry.Geometry.{Geometry}
-use Rattle.state_model.specs.declared.stream.Extents.{Extents}
-use Rattle.state_model.specs.Files.{has_type}
-use Rattle.state_model.specs.Loads.{extents_or}
-use Rattle.volume_model.specs.Volumes.{Volume, file_in, cluster_bits}
-use Rattle.stream_laws.specs.Sharing.{stream_at}
-use Rattle.plan_owners.specs.States.{Stands}
-use Rattle.plan_bodies.specs.Bodies.{NewBody, content_with}
-use Rattle.plan_draft.specs.declared.touched.Touched.{Touched}
-use Rattle.plan_draft.specs.Drafts.{drafted}
-use Rattle.draft_bits.specs.Effects.{IsKept}
-use Rattle.draft_records.specs.Records.{written_record, fits_room, touch_record}
-use Rattle.plan_growth.specs.Streams.{marks_streams, PutsFile}
+use Rattle.plan_values.specs.record_model.Constants.{attribute_list}
+use Rattle.plan_values.specs.record_model.Records.{Record, record_spelling}
+use Rattle.plan_values.specs.record_writer.NormalLaws.{FitsByRoom}
+use Rattle.plan_values.specs.state_model.declared.geometry.Geometry.{Geometry}
+use Rattle.plan_values.specs.state_model.declared.stream.Extents.{Extents}
+use Rattle.plan_values.specs.state_model.Files.{has_type}
+use Rattle.plan_values.specs.state_model.Loads.{extents_or}
+use Rattle.plan_values.specs.volume_model.Volumes.{Volume, file_in, cluster_bits}
+use Rattle.plan_values.specs.stream_laws.Sharing.{stream_at}
+use Rattle.plan_values.specs.plan_owners.States.{Stands}
+use Rattle.plan_values.specs.plan_bodies.Bodies.{NewBody, content_with}
+use Rattle.draft_resized.specs.plan_draft.declared.touched.Touched.{Touched}
+use Rattle.draft_resized.specs.plan_draft.Drafts.{drafted}
+use Rattle.draft_resized.specs.draft_bits.Effects.{IsKept}
+use Rattle.draft_resized.specs.draft_records.Records.{written_record, fits_room, touch_record}
+use Rattle.plan_values.specs.plan_growth.Streams.{marks_streams, PutsFile}
 use Rattle.plan_edits.specs.Written.{IsInUse}
 use Rattle.plan_edits.specs.Edits.{mirror_key}
 use Rattle.plan_edits.specs.Moves.{EditsDraft}

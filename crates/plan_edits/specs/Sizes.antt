@@ -2,26 +2,26 @@
 use Rattle.std.specs.Prelude.{◌≡◌, ℕ, ◌+◌, ◌*◌, ◌≤◌, max, false, List, ◌++◌, length, take, drop, Some}
 use Rattle.disk_model.specs.declared.block.BlockKind.TheVariants.{Plain}
 use Rattle.disk_model.specs.Content.{Content}
-use Rattle.record_model.specs.Pairs.{HasSpelling}
-use Rattle.record_model.specs.Records.{Record}
-use Rattle.state_model.specs.declared.geometry.Geometry.{Geometry}
-use Rattle.state_model.specs.declared.stream.Extents.{Extents}
-use Rattle.state_model.specs.declared.stream.Stream.TheVariants.{Placed}
-use Rattle.volume_model.specs.Volumes.{Volume, bytes_or}
-use Rattle.volume_model.specs.Sizes.{has_hole}
-use Rattle.stream_laws.specs.Owners.{stream_kind}
-use Rattle.stream_laws.specs.Sharing.{stream_at}
-use Rattle.plan_owners.specs.States.{Stands}
-use Rattle.plan_bodies.specs.Bodies.{NewBody}
-use Rattle.plan_draft.specs.declared.touched.Touched.{Touched}
-use Rattle.plan_draft.specs.Drafts.{drafted}
-use Rattle.plan_model.specs.Informed.{with_record}
-use Rattle.draft_streams.specs.Parts.{touch_bytes}
-use Rattle.draft_records.specs.Records.{written_record}
-use Rattle.resized_streams.specs.declared.resized.Resized.{Resized}
-use Rattle.resized_streams.specs.Resizing.{IsSized}
-use Rattle.plan_growth.specs.Streams.{IsOwnStream, key_of}
-use Rattle.plan_growth.specs.Sizing.{SizesStream}
+use Rattle.plan_values.specs.record_model.Pairs.{HasSpelling}
+use Rattle.plan_values.specs.record_model.Records.{Record}
+use Rattle.plan_values.specs.state_model.declared.geometry.Geometry.{Geometry}
+use Rattle.plan_values.specs.state_model.declared.stream.Extents.{Extents}
+use Rattle.plan_values.specs.state_model.declared.stream.Stream.TheVariants.{Placed}
+use Rattle.plan_values.specs.volume_model.Volumes.{Volume, bytes_or}
+use Rattle.plan_values.specs.volume_model.Sizes.{has_hole}
+use Rattle.plan_values.specs.stream_laws.Owners.{stream_kind}
+use Rattle.plan_values.specs.stream_laws.Sharing.{stream_at}
+use Rattle.plan_values.specs.plan_owners.States.{Stands}
+use Rattle.plan_values.specs.plan_bodies.Bodies.{NewBody}
+use Rattle.draft_resized.specs.plan_draft.declared.touched.Touched.{Touched}
+use Rattle.draft_resized.specs.plan_draft.Drafts.{drafted}
+use Rattle.plan_values.specs.plan_model.Informed.{with_record}
+use Rattle.draft_resized.specs.draft_streams.Parts.{touch_bytes}
+use Rattle.draft_resized.specs.draft_records.Records.{written_record}
+use Rattle.plan_values.specs.resized_streams.declared.resized.Resized.{Resized}
+use Rattle.plan_values.specs.resized_streams.Resizing.{IsSized}
+use Rattle.plan_values.specs.plan_growth.Streams.{IsOwnStream, key_of}
+use Rattle.plan_values.specs.plan_growth.Sizing.{SizesStream}
 use Rattle.plan_edits.specs.Moves.{EditsDraft}
 use Rattle.plan_edits.specs.Records.{PutsRecordOf}
 

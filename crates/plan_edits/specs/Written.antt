@@ -1,14 +1,14 @@
 -- A record that is put is read as it was meant.
 use Rattle.std.specs.Prelude.{◌≡◌, ℕ, ◌%◌, true, false, List, Ok}
 use Rattle.disk_model.specs.Content.{Content}
-use Rattle.record_model.specs.Pairs.{HasSpelling}
-use Rattle.record_model.specs.Records.{Record, record_spelling}
-use Rattle.record_writer.specs.NormalLaws.{FitsByRoom}
-use Rattle.state_model.specs.declared.stream.Extents.{Extents}
-use Rattle.state_model.specs.Loads.{Used, slot_of, table_slot, has_all_pairs}
-use Rattle.record_streams.specs.Placing.{placed_record}
-use Rattle.draft_records.specs.Records.{written_record, fits_room}
-use Rattle.plan_growth.specs.Streams.{IsWritten}
+use Rattle.plan_values.specs.record_model.Pairs.{HasSpelling}
+use Rattle.plan_values.specs.record_model.Records.{Record, record_spelling}
+use Rattle.plan_values.specs.record_writer.NormalLaws.{FitsByRoom}
+use Rattle.plan_values.specs.state_model.declared.stream.Extents.{Extents}
+use Rattle.plan_values.specs.state_model.Loads.{Used, slot_of, table_slot, has_all_pairs}
+use Rattle.plan_values.specs.record_streams.Placing.{placed_record}
+use Rattle.draft_resized.specs.draft_records.Records.{written_record, fits_room}
+use Rattle.plan_values.specs.plan_growth.Streams.{IsWritten}
 
 -- the record has the flag in use, and its mapping pairs fit
 pub record IsInUse (r : Record) : Type 0 where

@@ -7,7 +7,15 @@
 
 mod laws;
 
+pub use draft_resized::{
+    DraftFault, data_extents, file, put_bytes, put_file, put_moved, put_resized, reads_the_table,
+    written_file,
+};
 pub use laws::{
     drafts_put_blocks, moved_is_edit, record_is_edit, resized_is_edit, sized_is_edit,
     state_has_bitmap, written_is_read,
+};
+pub use plan_values::{
+    DirPlace, DirPlan, FileRec, FixedValue, NodesPlan, lay_out, push_copies, push_copy, sized,
+    stream_of,
 };

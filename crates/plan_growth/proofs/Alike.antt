@@ -2,13 +2,13 @@
 use Rattle.std.proofs.Common.{◌≡◌, ℕ, zero, suc, ◌+◌, ◌-◌, ◌*◌, ◌/◌, ◌<◌, ◌≤◌, Bool, false, ◌||◌, refl, sym, ap, ap₂, ◌∙◌, arith}
 use Rattle.std.specs.List.{list_any, range_with_len}
 use Rattle.std.proofs.lemmas.Bool.{or_parts}
-use Rattle.disk_model.specs.declared.block.BlockKind.{BlockKind}
-use Rattle.disk_model.specs.declared.block.BlockKind.TheVariants.{Plain, FileRec, Index}
-use Rattle.disk_model.specs.Sectors.{sectors}
-use Rattle.disk_model.specs.Content.{Content}
-use Rattle.state_model.specs.declared.stream.Extents.{Extents}
-use Rattle.state_model.specs.Streams.{block_at}
-use Rattle.volume_model.specs.Sizes.{is_torn_at, begun, has_torn}
+use Rattle.plan_model.specs.disk_model.declared.block.BlockKind.{BlockKind}
+use Rattle.plan_model.specs.disk_model.declared.block.BlockKind.TheVariants.{Plain, FileRec, Index}
+use Rattle.plan_model.specs.disk_model.Sectors.{sectors}
+use Rattle.plan_model.specs.disk_model.Content.{Content}
+use Rattle.plan_model.specs.state_model.declared.stream.Extents.{Extents}
+use Rattle.plan_model.specs.state_model.Streams.{block_at}
+use Rattle.plan_model.specs.volume_model.Sizes.{is_torn_at, begun, has_torn}
 
 -- ---- blocks in one cluster, at eight sectors a cluster
 

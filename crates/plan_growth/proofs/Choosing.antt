@@ -3,17 +3,17 @@ use Rattle.std.proofs.Common.{◌≡◌, ◌⊎◌, ℕ, ◌+◌, ◌<◌, ◌�
 use Rattle.std.specs.Prelude.{IfSome}
 use Rattle.std.specs.List.{list_all, list_any}
 use Rattle.std.proofs.lemmas.Bool.{cases_Bool, cases_lt, and_parts, and_from, or_from, both_ways, leb-true, ltb-true, le-leb, lt-ltb}
-use Rattle.record_model.specs.declared.runs.Run.{Run}
-use Rattle.record_model.specs.Pairs.{cluster_limit, Follow}
-use Rattle.bit_set.specs.Bits.{bit}
-use Rattle.state_model.specs.Loads.{total_clusters}
-use Rattle.volume_model.specs.Owners.{covers_from, covers, uses}
-use Rattle.volume_model.specs.Sizes.{lies_below, lies_inside, is_hole}
-use Rattle.space_model.specs.Choosing.{with_run, chosen}
-use Rattle.space_model.specs.Laws.{AreFree}
-use Rattle.space_model.proofs.Lawful.{chosen_are_free}
-use Rattle.space_model.proofs.Searching.{length-with_run, with_run-inside, with_run-others}
-use Rattle.stream_runs.proofs.Merging.{uses-cons}
+use Rattle.plan_model.specs.record_model.declared.runs.Run.{Run}
+use Rattle.plan_model.specs.record_model.Pairs.{cluster_limit, Follow}
+use Rattle.plan_model.specs.bit_set.Bits.{bit}
+use Rattle.plan_model.specs.state_model.Loads.{total_clusters}
+use Rattle.plan_model.specs.volume_model.Owners.{covers_from, covers, uses}
+use Rattle.plan_model.specs.volume_model.Sizes.{lies_below, lies_inside, is_hole}
+use Rattle.resized_streams.specs.space_model.Choosing.{with_run, chosen}
+use Rattle.resized_streams.specs.space_model.Laws.{AreFree}
+use Rattle.resized_streams.proofs.space_model.Lawful.{chosen_are_free}
+use Rattle.resized_streams.proofs.space_model.Searching.{length-with_run, with_run-inside, with_run-others}
+use Rattle.resized_streams.proofs.stream_runs.Merging.{uses-cons}
 use Rattle.plan_growth.specs.Streams.{MayTake}
 
 free_follow : (bits : List Bool) (n : ℕ) (runs : List Run) → AreFree bits n runs → length bits ≤ cluster_limit → n + total_clusters runs ≤ cluster_limit → Follow 0 n runs

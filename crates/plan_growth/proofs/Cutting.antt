@@ -2,37 +2,37 @@
 use Rattle.std.proofs.Common.{◌≡◌, ◌⊎◌, ℕ, ◌*◌, ◌/◌, ◌<◌, ◌≤◌, Bool, true, false, not, ◌&&◌, leb, min, List, [], ◌∷◌, take, Option, Some, refl, sym, ap, subst, ◌∙◌, inl, inr, arith}
 use Rattle.std.specs.List.{list_all}
 use Rattle.std.proofs.lemmas.Bool.{cases_lt, and_parts, and_from, both_ways, le-leb, lt-leb, eq-eqb}
-use Rattle.disk_model.specs.declared.block.Block.{Block}
-use Rattle.disk_model.specs.declared.block.BlockKind.{BlockKind}
-use Rattle.disk_model.specs.declared.block.BlockKind.TheVariants.{Plain, FileRec, Index}
-use Rattle.disk_model.specs.Sectors.{sectors}
-use Rattle.disk_model.specs.Content.{Content, HasSizes}
-use Rattle.record_model.specs.declared.runs.Run.{Run}
-use Rattle.record_model.specs.Records.{Record}
-use Rattle.bit_set.specs.Bits.{bit}
-use Rattle.state_model.specs.declared.geometry.Geometry.{Geometry}
-use Rattle.state_model.specs.declared.stream.Extents.{Extents}
-use Rattle.state_model.specs.declared.stream.Stream.{Stream}
-use Rattle.state_model.specs.declared.stream.Stream.TheVariants.{Placed}
-use Rattle.state_model.specs.Loads.{total_clusters}
-use Rattle.state_model.specs.Streams.{block_at}
-use Rattle.volume_model.specs.Volumes.{Volume, bytes_or, cluster_bits}
-use Rattle.volume_model.specs.Owners.{uses}
-use Rattle.volume_model.specs.Sizes.{has_hole, lies_inside, has_sizes, fits_volume}
-use Rattle.stream_laws.specs.Owners.{stream_kind, initialised_in, IsLive}
-use Rattle.stream_laws.specs.Sharing.{stream_at, runs_in}
-use Rattle.stream_laws.specs.Rewrites.{is_edited}
-use Rattle.stream_laws.proofs.Growing.{stream_cut as front_bytes}
-use Rattle.stream_runs.specs.Runs.{front, back}
-use Rattle.stream_runs.specs.Laws.{InOneCluster}
-use Rattle.stream_runs.proofs.Merging.{total-merged, uses-merged, follow-merged}
-use Rattle.stream_runs.proofs.Parts.{total-front, uses_parts, follow-front}
-use Rattle.stream_runs.proofs.Places.{places-merged, places-front}
-use Rattle.record_streams.specs.Placing.{placed_record}
+use Rattle.plan_model.specs.disk_model.declared.block.Block.{Block}
+use Rattle.plan_model.specs.disk_model.declared.block.BlockKind.{BlockKind}
+use Rattle.plan_model.specs.disk_model.declared.block.BlockKind.TheVariants.{Plain, FileRec, Index}
+use Rattle.plan_model.specs.disk_model.Sectors.{sectors}
+use Rattle.plan_model.specs.disk_model.Content.{Content, HasSizes}
+use Rattle.plan_model.specs.record_model.declared.runs.Run.{Run}
+use Rattle.plan_model.specs.record_model.Records.{Record}
+use Rattle.plan_model.specs.bit_set.Bits.{bit}
+use Rattle.plan_model.specs.state_model.declared.geometry.Geometry.{Geometry}
+use Rattle.plan_model.specs.state_model.declared.stream.Extents.{Extents}
+use Rattle.plan_model.specs.state_model.declared.stream.Stream.{Stream}
+use Rattle.plan_model.specs.state_model.declared.stream.Stream.TheVariants.{Placed}
+use Rattle.plan_model.specs.state_model.Loads.{total_clusters}
+use Rattle.plan_model.specs.state_model.Streams.{block_at}
+use Rattle.plan_model.specs.volume_model.Volumes.{Volume, bytes_or, cluster_bits}
+use Rattle.plan_model.specs.volume_model.Owners.{uses}
+use Rattle.plan_model.specs.volume_model.Sizes.{has_hole, lies_inside, has_sizes, fits_volume}
+use Rattle.plan_model.specs.stream_laws.Owners.{stream_kind, initialised_in, IsLive}
+use Rattle.plan_model.specs.stream_laws.Sharing.{stream_at, runs_in}
+use Rattle.plan_model.specs.stream_laws.Rewrites.{is_edited}
+use Rattle.plan_model.proofs.stream_laws.Growing.{stream_cut as front_bytes}
+use Rattle.resized_streams.specs.stream_runs.Runs.{front, back}
+use Rattle.resized_streams.specs.stream_runs.Laws.{InOneCluster}
+use Rattle.resized_streams.proofs.stream_runs.Merging.{total-merged, uses-merged, follow-merged}
+use Rattle.resized_streams.proofs.stream_runs.Parts.{total-front, uses_parts, follow-front}
+use Rattle.resized_streams.proofs.stream_runs.Places.{places-merged, places-front}
+use Rattle.resized_streams.specs.record_streams.Placing.{placed_record}
 use Rattle.resized_streams.specs.declared.resized.Resized.{Resized}
 use Rattle.resized_streams.specs.Resizing.{clusters_for, shortened}
-use Rattle.plan_owners.specs.States.{Stands}
-use Rattle.plan_bodies.specs.Bodies.{NewBody, content_with}
+use Rattle.plan_model.specs.plan_owners.States.{Stands}
+use Rattle.plan_model.specs.plan_bodies.Bodies.{NewBody, content_with}
 use Rattle.plan_model.specs.Drafts.{GoesOn, IsPut}
 use Rattle.plan_model.specs.Edits.{LeadsTo}
 use Rattle.plan_model.specs.Informed.{with_record}

@@ -3,41 +3,41 @@ use Rattle.std.proofs.Common.{◌≡◌, ◌⊎◌, ℕ, ◌+◌, ◌*◌, ◌/�
 use Rattle.std.specs.Prelude.{map}
 use Rattle.std.specs.List.{list_all, range_with_len}
 use Rattle.std.proofs.lemmas.Bool.{cases_lt, and_parts, and_from, both_ways, or_left, or_right, le-leb, lt-leb, eq-eqb}
-use Rattle.disk_model.specs.declared.block.Block.{Block}
-use Rattle.disk_model.specs.declared.block.BlockKind.{BlockKind}
-use Rattle.disk_model.specs.declared.block.BlockKind.TheVariants.{Plain, FileRec, Index}
-use Rattle.disk_model.specs.Sectors.{sectors}
-use Rattle.disk_model.specs.Content.{Content, HasSizes}
-use Rattle.record_model.specs.declared.runs.Run.{Run}
-use Rattle.record_model.specs.Records.{Record}
-use Rattle.record_model.specs.Pairs.{HasSpelling}
-use Rattle.bit_set.specs.Bits.{bit}
-use Rattle.state_model.specs.declared.geometry.Geometry.{Geometry}
-use Rattle.state_model.specs.declared.stream.Extents.{Extents}
-use Rattle.state_model.specs.declared.stream.Stream.{Stream}
-use Rattle.state_model.specs.declared.stream.Stream.TheVariants.{Placed}
-use Rattle.state_model.specs.Loads.{total_clusters}
-use Rattle.state_model.specs.Streams.{block_at, extent_bytes}
-use Rattle.volume_model.specs.Volumes.{Volume, cluster_bits, bytes_or}
-use Rattle.volume_model.specs.Indexes.{void_block, or_void, index_block, runs_end, block_count, blocks_of, stream_blocks}
-use Rattle.volume_model.specs.Owners.{uses}
-use Rattle.volume_model.specs.Sizes.{lies_inside, has_sizes, fits_volume, has_hole}
-use Rattle.stream_laws.specs.Owners.{stream_kind, initialised_in, IsLive}
-use Rattle.stream_laws.specs.Sharing.{stream_at, runs_in}
-use Rattle.stream_laws.specs.Rewrites.{is_edited}
-use Rattle.stream_laws.proofs.Growing.{stream_cut as front_bytes}
-use Rattle.stream_laws.proofs.Changing.{length-extent_bytes}
+use Rattle.plan_model.specs.disk_model.declared.block.Block.{Block}
+use Rattle.plan_model.specs.disk_model.declared.block.BlockKind.{BlockKind}
+use Rattle.plan_model.specs.disk_model.declared.block.BlockKind.TheVariants.{Plain, FileRec, Index}
+use Rattle.plan_model.specs.disk_model.Sectors.{sectors}
+use Rattle.plan_model.specs.disk_model.Content.{Content, HasSizes}
+use Rattle.plan_model.specs.record_model.declared.runs.Run.{Run}
+use Rattle.plan_model.specs.record_model.Records.{Record}
+use Rattle.plan_model.specs.record_model.Pairs.{HasSpelling}
+use Rattle.plan_model.specs.bit_set.Bits.{bit}
+use Rattle.plan_model.specs.state_model.declared.geometry.Geometry.{Geometry}
+use Rattle.plan_model.specs.state_model.declared.stream.Extents.{Extents}
+use Rattle.plan_model.specs.state_model.declared.stream.Stream.{Stream}
+use Rattle.plan_model.specs.state_model.declared.stream.Stream.TheVariants.{Placed}
+use Rattle.plan_model.specs.state_model.Loads.{total_clusters}
+use Rattle.plan_model.specs.state_model.Streams.{block_at, extent_bytes}
+use Rattle.plan_model.specs.volume_model.Volumes.{Volume, cluster_bits, bytes_or}
+use Rattle.plan_model.specs.volume_model.Indexes.{void_block, or_void, index_block, runs_end, block_count, blocks_of, stream_blocks}
+use Rattle.plan_model.specs.volume_model.Owners.{uses}
+use Rattle.plan_model.specs.volume_model.Sizes.{lies_inside, has_sizes, fits_volume, has_hole}
+use Rattle.plan_model.specs.stream_laws.Owners.{stream_kind, initialised_in, IsLive}
+use Rattle.plan_model.specs.stream_laws.Sharing.{stream_at, runs_in}
+use Rattle.plan_model.specs.stream_laws.Rewrites.{is_edited}
+use Rattle.plan_model.proofs.stream_laws.Growing.{stream_cut as front_bytes}
+use Rattle.plan_model.proofs.stream_laws.Changing.{length-extent_bytes}
 use Rattle.std.proofs.lemmas.List.{take_all}
-use Rattle.stream_laws.proofs.Framing.{same_map}
-use Rattle.stream_runs.specs.Runs.{moved, grown}
-use Rattle.stream_runs.specs.Laws.{InOneCluster}
-use Rattle.stream_runs.proofs.Merging.{total-merged, total-append, total-moved, uses-merged, uses-append, uses-moved, follow-grown}
-use Rattle.stream_runs.proofs.Places.{places-grown}
-use Rattle.record_streams.specs.Placing.{placed_record}
+use Rattle.plan_model.proofs.stream_laws.Framing.{same_map}
+use Rattle.resized_streams.specs.stream_runs.Runs.{moved, grown}
+use Rattle.resized_streams.specs.stream_runs.Laws.{InOneCluster}
+use Rattle.resized_streams.proofs.stream_runs.Merging.{total-merged, total-append, total-moved, uses-merged, uses-append, uses-moved, follow-grown}
+use Rattle.resized_streams.proofs.stream_runs.Places.{places-grown}
+use Rattle.resized_streams.specs.record_streams.Placing.{placed_record}
 use Rattle.resized_streams.specs.declared.resized.Resized.{Resized}
 use Rattle.resized_streams.specs.Resizing.{lengthened}
-use Rattle.plan_owners.specs.States.{Stands}
-use Rattle.plan_bodies.specs.Bodies.{NewBody, content_with}
+use Rattle.plan_model.specs.plan_owners.States.{Stands}
+use Rattle.plan_model.specs.plan_bodies.Bodies.{NewBody, content_with}
 use Rattle.plan_model.specs.Drafts.{GoesOn, IsPut, gives_runs}
 use Rattle.plan_model.specs.Edits.{LeadsTo}
 use Rattle.plan_model.specs.Informed.{with_record}

@@ -2,36 +2,36 @@
 use Rattle.std.proofs.Common.{◌≡◌, ℕ, ◌*◌, ◌<◌, ◌≤◌, Bool, true, false, ◌||◌, leb, ltb, List, [], ◌∷◌, ◌++◌, length, Option, Some, None, refl, sym, ap, subst, ◌∙◌, inl, inr, arith}
 use Rattle.std.specs.List.{flat_map}
 use Rattle.std.proofs.lemmas.Bool.{cases_lt, and_parts, and_from, both_ways, or_left, or_right, le-leb, lt-leb, eq-eqb}
-use Rattle.disk_model.specs.declared.block.Block.{Block}
-use Rattle.disk_model.specs.declared.block.Body.{Body}
-use Rattle.disk_model.specs.declared.block.BlockKind.{BlockKind}
-use Rattle.disk_model.specs.declared.block.BlockKind.TheVariants.{FileRec}
-use Rattle.disk_model.specs.Sectors.{sectors}
-use Rattle.disk_model.specs.Content.{Content, HasSizes}
-use Rattle.record_model.specs.declared.attribute.OwnForm.{OwnForm}
-use Rattle.record_model.specs.declared.attribute.OwnForm.TheVariants.{Resident, Mapped}
-use Rattle.record_model.specs.declared.attribute.Attr.{Attr}
-use Rattle.record_model.specs.declared.runs.Run.{Run}
-use Rattle.record_model.specs.Records.{Record}
-use Rattle.bit_set.specs.Bits.{bit}
-use Rattle.state_model.specs.declared.geometry.Geometry.{Geometry}
-use Rattle.state_model.specs.declared.stream.Extents.{Extents}
-use Rattle.state_model.specs.declared.stream.Stream.TheVariants.{Held, Placed}
-use Rattle.state_model.specs.Loads.{total_clusters}
-use Rattle.state_model.specs.Streams.{attributes_of, attribute_runs, joined, stream_of, block_at}
-use Rattle.volume_model.specs.Volumes.{Volume, cluster_bits}
-use Rattle.volume_model.specs.Owners.{uses}
-use Rattle.volume_model.specs.Sizes.{are_joined, fits_volume, is_torn_at, begun, has_torn}
-use Rattle.stream_laws.specs.Owners.{stream_kind}
-use Rattle.stream_laws.specs.Rewrites.{is_edited}
-use Rattle.stream_laws.specs.Sharing.{stream_at}
-use Rattle.stream_runs.proofs.Merging.{follow-grown}
-use Rattle.record_streams.specs.Placing.{placed_record}
+use Rattle.plan_model.specs.disk_model.declared.block.Block.{Block}
+use Rattle.plan_model.specs.disk_model.declared.block.Body.{Body}
+use Rattle.plan_model.specs.disk_model.declared.block.BlockKind.{BlockKind}
+use Rattle.plan_model.specs.disk_model.declared.block.BlockKind.TheVariants.{FileRec}
+use Rattle.plan_model.specs.disk_model.Sectors.{sectors}
+use Rattle.plan_model.specs.disk_model.Content.{Content, HasSizes}
+use Rattle.plan_model.specs.record_model.declared.attribute.OwnForm.{OwnForm}
+use Rattle.plan_model.specs.record_model.declared.attribute.OwnForm.TheVariants.{Resident, Mapped}
+use Rattle.plan_model.specs.record_model.declared.attribute.Attr.{Attr}
+use Rattle.plan_model.specs.record_model.declared.runs.Run.{Run}
+use Rattle.plan_model.specs.record_model.Records.{Record}
+use Rattle.plan_model.specs.bit_set.Bits.{bit}
+use Rattle.plan_model.specs.state_model.declared.geometry.Geometry.{Geometry}
+use Rattle.plan_model.specs.state_model.declared.stream.Extents.{Extents}
+use Rattle.plan_model.specs.state_model.declared.stream.Stream.TheVariants.{Held, Placed}
+use Rattle.plan_model.specs.state_model.Loads.{total_clusters}
+use Rattle.plan_model.specs.state_model.Streams.{attributes_of, attribute_runs, joined, stream_of, block_at}
+use Rattle.plan_model.specs.volume_model.Volumes.{Volume, cluster_bits}
+use Rattle.plan_model.specs.volume_model.Owners.{uses}
+use Rattle.plan_model.specs.volume_model.Sizes.{are_joined, fits_volume, is_torn_at, begun, has_torn}
+use Rattle.plan_model.specs.stream_laws.Owners.{stream_kind}
+use Rattle.plan_model.specs.stream_laws.Rewrites.{is_edited}
+use Rattle.plan_model.specs.stream_laws.Sharing.{stream_at}
+use Rattle.resized_streams.proofs.stream_runs.Merging.{follow-grown}
+use Rattle.resized_streams.specs.record_streams.Placing.{placed_record}
 use Rattle.resized_streams.specs.declared.resized.Resized.{Resized}
 use Rattle.resized_streams.specs.Resizing.{clusters_for, unplaced, lengthened}
-use Rattle.plan_owners.specs.States.{Stands}
-use Rattle.plan_bodies.specs.Bodies.{NewBody, content_with, body_or}
-use Rattle.plan_bodies.proofs.Putting.{body_put}
+use Rattle.plan_model.specs.plan_owners.States.{Stands}
+use Rattle.plan_model.specs.plan_bodies.Bodies.{NewBody, content_with, body_or}
+use Rattle.plan_model.proofs.plan_bodies.Putting.{body_put}
 use Rattle.plan_model.specs.Drafts.{GoesOn, IsPut, gives_runs}
 use Rattle.plan_model.specs.Edits.{LeadsTo}
 use Rattle.plan_model.specs.Informed.{with_record}

@@ -6,31 +6,31 @@ use Rattle.std.specs.Cmp.Lexicographic.{pointwise}
 use Rattle.std.proofs.lemmas.Bool.{cases_Bool, cases_eq, and_parts, and_from, or_left, or_right, both_ways, ne_eqb, eq-eqb}
 use Rattle.std.proofs.lemmas.List.Sums.{sum_by-cons}
 use Rattle.std.proofs.lemmas.List.Elements.{All-nil, All-cons, All-head, All-filter}
-use Rattle.record_model.specs.declared.attribute.Attr.{Attr}
-use Rattle.record_model.specs.declared.attribute.OwnForm.{OwnForm}
-use Rattle.record_model.specs.declared.attribute.OwnForm.TheVariants.{Resident, Mapped}
-use Rattle.record_model.specs.declared.runs.Run.{Run}
-use Rattle.record_model.specs.Records.{Record}
-use Rattle.record_model.specs.declared.record.RecHead.{RecHead}
-use Rattle.record_model.specs.Pairs.{HasSpelling}
-use Rattle.record_model.specs.Constants.{standard_information, file_name, index_root}
-use Rattle.file_tree.specs.declared.link.Link.{Link}
+use Rattle.plan_model.specs.record_model.declared.attribute.Attr.{Attr}
+use Rattle.plan_model.specs.record_model.declared.attribute.OwnForm.{OwnForm}
+use Rattle.plan_model.specs.record_model.declared.attribute.OwnForm.TheVariants.{Resident, Mapped}
+use Rattle.plan_model.specs.record_model.declared.runs.Run.{Run}
+use Rattle.plan_model.specs.record_model.Records.{Record}
+use Rattle.plan_model.specs.record_model.declared.record.RecHead.{RecHead}
+use Rattle.plan_model.specs.record_model.Pairs.{HasSpelling}
+use Rattle.plan_model.specs.record_model.Constants.{standard_information, file_name, index_root}
+use Rattle.plan_model.specs.file_tree.declared.link.Link.{Link}
 use Rattle.host_base.specs.declared.file_ref.FileRef.{FileRef}
-use Rattle.state_model.specs.declared.stream.Extents.{Extents}
-use Rattle.state_model.specs.declared.stream.Stream.{Stream}
-use Rattle.state_model.specs.declared.stream.Stream.TheVariants.{Placed}
-use Rattle.state_model.specs.Files.{form_link, attr_link, reference, record_links, is_directory_record, has_type, attr_info, info_of}
-use Rattle.state_model.specs.Indexes.{is_names_root}
-use Rattle.state_model.specs.Rules.{keeps_names}
-use Rattle.state_model.specs.Streams.{is_attribute_of, attributes_of, attribute_runs, joined, stream_of}
-use Rattle.volume_model.specs.Indexes.{attr_value, root_value}
-use Rattle.volume_model.specs.Owners.{file_runs, uses}
-use Rattle.volume_model.specs.Sizes.{are_joined, fits_volume, keeps_stream}
-use Rattle.stream_laws.specs.Sharing.{runs_in}
-use Rattle.stream_laws.proofs.Sharing.{attr_uses, uses-flat_map, attributes_sum, attribute_kind, same_from_test}
-use Rattle.record_streams.specs.Placing.{without_stream, with_stream, placed_attr, placed_first, placed_record}
-use Rattle.record_streams.proofs.Kept.{all_with as with_all, all_of_stream}
-use Rattle.record_streams.proofs.Streams.{placed_is, first_passes, own_with, others_with, placed_one, placed_stream, placed_others, some_by}
+use Rattle.plan_model.specs.state_model.declared.stream.Extents.{Extents}
+use Rattle.plan_model.specs.state_model.declared.stream.Stream.{Stream}
+use Rattle.plan_model.specs.state_model.declared.stream.Stream.TheVariants.{Placed}
+use Rattle.plan_model.specs.state_model.Files.{form_link, attr_link, reference, record_links, is_directory_record, has_type, attr_info, info_of}
+use Rattle.plan_model.specs.state_model.Indexes.{is_names_root}
+use Rattle.plan_model.specs.state_model.Rules.{keeps_names}
+use Rattle.plan_model.specs.state_model.Streams.{is_attribute_of, attributes_of, attribute_runs, joined, stream_of}
+use Rattle.plan_model.specs.volume_model.Indexes.{attr_value, root_value}
+use Rattle.plan_model.specs.volume_model.Owners.{file_runs, uses}
+use Rattle.plan_model.specs.volume_model.Sizes.{are_joined, fits_volume, keeps_stream}
+use Rattle.plan_model.specs.stream_laws.Sharing.{runs_in}
+use Rattle.plan_model.proofs.stream_laws.Sharing.{attr_uses, uses-flat_map, attributes_sum, attribute_kind, same_from_test}
+use Rattle.resized_streams.specs.record_streams.Placing.{without_stream, with_stream, placed_attr, placed_first, placed_record}
+use Rattle.resized_streams.proofs.record_streams.Kept.{all_with as with_all, all_of_stream}
+use Rattle.resized_streams.proofs.record_streams.Streams.{placed_is, first_passes, own_with, others_with, placed_one, placed_stream, placed_others, some_by}
 
 -- ---- what a test says of a list, by what passes
 

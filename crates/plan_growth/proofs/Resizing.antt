@@ -4,85 +4,85 @@ use Rattle.std.specs.Prelude.{All}
 use Rattle.std.specs.List.{list_all, list_any, flat_map, AllByRecursion}
 use Rattle.std.specs.Cmp.Lexicographic.{pointwise}
 use Rattle.std.proofs.lemmas.Bool.{cases_Bool, cases_lt, cases_eq, and_parts, and_from, and_left, and_right, both_ways, false_from_ne_true, or_left, or_from, eqb-true, eqb-false, ne_eqb, eq-eqb, lt-ltb}
-use Rattle.disk_model.specs.declared.block.Block.{Block}
-use Rattle.disk_model.specs.declared.block.BlockKind.{BlockKind}
-use Rattle.disk_model.specs.declared.block.BlockKind.TheVariants.{Plain, FileRec, Index}
-use Rattle.disk_model.specs.Sectors.{sectors, same_block, same_kind}
-use Rattle.disk_model.specs.Content.{Content, HasSizes}
-use Rattle.disk_model.specs.Writes.{Write}
-use Rattle.record_model.specs.declared.attribute.Attr.{Attr}
-use Rattle.record_model.specs.declared.runs.Run.{Run}
-use Rattle.record_model.specs.Records.{Record, shaped_at, has_lawful_values}
+use Rattle.plan_model.specs.disk_model.declared.block.Block.{Block}
+use Rattle.plan_model.specs.disk_model.declared.block.BlockKind.{BlockKind}
+use Rattle.plan_model.specs.disk_model.declared.block.BlockKind.TheVariants.{Plain, FileRec, Index}
+use Rattle.plan_model.specs.disk_model.Sectors.{sectors, same_block, same_kind}
+use Rattle.plan_model.specs.disk_model.Content.{Content, HasSizes}
+use Rattle.plan_model.specs.disk_model.Writes.{Write}
+use Rattle.plan_model.specs.record_model.declared.attribute.Attr.{Attr}
+use Rattle.plan_model.specs.record_model.declared.runs.Run.{Run}
+use Rattle.plan_model.specs.record_model.Records.{Record, shaped_at, has_lawful_values}
 use Rattle.host_base.specs.Answers.{◌>>=◌, needs}
-use Rattle.record_model.specs.declared.record.RecHead.{RecHead}
-use Rattle.record_model.specs.Pairs.{HasSpelling}
-use Rattle.record_model.specs.Constants.{standard_information, file_name, attribute_list, data_type, index_allocation, bitmap_type, names_index, reparse_point, object_id}
-use Rattle.file_tree.specs.declared.link.Link.{Link}
+use Rattle.plan_model.specs.record_model.declared.record.RecHead.{RecHead}
+use Rattle.plan_model.specs.record_model.Pairs.{HasSpelling}
+use Rattle.plan_model.specs.record_model.Constants.{standard_information, file_name, attribute_list, data_type, index_allocation, bitmap_type, names_index, reparse_point, object_id}
+use Rattle.plan_model.specs.file_tree.declared.link.Link.{Link}
 use Rattle.host_base.specs.declared.file_ref.FileRef.{FileRef}
-use Rattle.file_tree.specs.Walks.{first_user_record}
-use Rattle.bit_set.specs.Bits.{bit}
-use Rattle.state_model.specs.declared.geometry.Geometry.{Geometry}
-use Rattle.state_model.specs.declared.stream.Extents.{Extents}
-use Rattle.state_model.specs.declared.stream.Stream.{Stream}
-use Rattle.state_model.specs.declared.stream.Stream.TheVariants.{Placed, Held}
-use Rattle.state_model.specs.Files.{file_at, reference, file_links, links_at, record_links, is_base_record, is_directory_record, has_type, info_of, is_encrypted, is_compressed, is_sparse, why_by}
-use Rattle.record_model.specs.declared.values.StdInfo.{StdInfo}
-use Rattle.file_tree.specs.declared.node.Kind.{Kind}
-use Rattle.file_tree.specs.declared.node.Kind.TheVariants.{Directory, File, Fixed, Opaque, System}
-use Rattle.file_tree.specs.declared.node.Why.{Why}
-use Rattle.file_tree.specs.declared.node.Node.{Node}
+use Rattle.plan_model.specs.file_tree.Walks.{first_user_record}
+use Rattle.plan_model.specs.bit_set.Bits.{bit}
+use Rattle.plan_model.specs.state_model.declared.geometry.Geometry.{Geometry}
+use Rattle.plan_model.specs.state_model.declared.stream.Extents.{Extents}
+use Rattle.plan_model.specs.state_model.declared.stream.Stream.{Stream}
+use Rattle.plan_model.specs.state_model.declared.stream.Stream.TheVariants.{Placed, Held}
+use Rattle.plan_model.specs.state_model.Files.{file_at, reference, file_links, links_at, record_links, is_base_record, is_directory_record, has_type, info_of, is_encrypted, is_compressed, is_sparse, why_by}
+use Rattle.plan_model.specs.record_model.declared.values.StdInfo.{StdInfo}
+use Rattle.plan_model.specs.file_tree.declared.node.Kind.{Kind}
+use Rattle.plan_model.specs.file_tree.declared.node.Kind.TheVariants.{Directory, File, Fixed, Opaque, System}
+use Rattle.plan_model.specs.file_tree.declared.node.Why.{Why}
+use Rattle.plan_model.specs.file_tree.declared.node.Node.{Node}
 use Rattle.std.specs.Option.{option_or, option_map}
-use Rattle.volume_state.specs.Trees.{tree_with, tree_of, volume_journal}
-use Rattle.record_streams.proofs.Streams.{placed_one}
+use Rattle.plan_model.specs.volume_state.Trees.{tree_with, tree_of, volume_journal}
+use Rattle.resized_streams.proofs.record_streams.Streams.{placed_one}
 use Rattle.plan_growth.specs.Trees.{with_data, TreeFollows}
-use Rattle.state_model.specs.Loads.{Slot, Free, Used, slot_of, slot_at, is_used, whole_record, has_fitting_pairs, has_all_pairs, table_slot, table_in, data_stream, has_cut_index_block}
-use Rattle.state_model.specs.Rules.{implies, at_file, is_directory_with, keeps_names, keeps_1, keeps_2, keeps_8}
-use Rattle.state_model.specs.Streams.{attributes_of, attribute_runs, stream_of, block_at, is_inside_block, cuts_block, has_cut_block}
-use Rattle.state_model.specs.Trees.{is_system, is_nameless}
-use Rattle.volume_model.specs.Volumes.{Volume, count_of, file_in, files_by_number, bytes_or, size_or, is_in_use, file_stream, record_bits, cluster_bits, table_file, mirror_file, bitmap_file, upcase_file, upper_of}
-use Rattle.volume_model.specs.Indexes.{void_block, index_place, index_links, index_stream, stream_blocks, links_below, lists_names, keeps_index}
-use Rattle.volume_model.specs.Nodes.{valid_or, clusters_or, data_flags, first_flags, has_sparse_run, sparse_if, why_not, is_unread, is_unchanged, kind_in, shows_data, data_shown, node_with, node_by, some_node, node_at, spare_numbers}
-use Rattle.volume_model.specs.Owners.{file_runs, volume_runs, uses, keeps_record_bit}
-use Rattle.volume_model.specs.Sizes.{fits_volume, keeps_stream, is_whole_file, has_hole, stream_has_torn, is_initialised, keeps_streams, keeps_sizes}
-use Rattle.volume_state.specs.Journals.{entries_name, limits_name, entries_flags, file_or_none, journal_file, journal_of_streams, journal_of_file, journal_of, fault_of, some_journal}
-use Rattle.volume_state.specs.Rules.{broken_1, broken_3, broken_9}
-use Rattle.index_model.specs.Indexes.{Place}
-use Rattle.stream_laws.specs.Leaving.{LiesFree}
-use Rattle.stream_laws.specs.Owners.{holds_records, stream_kind, initialised_in, Owns, IsLive}
-use Rattle.stream_laws.specs.Replacing.{FileEdit, OneFileDiffers, with_edits}
-use Rattle.stream_laws.specs.Rewrites.{StandsAlone, is_edited, with_files}
-use Rattle.stream_laws.specs.Sharing.{StreamKey, stream_at, runs_in}
-use Rattle.stream_laws.specs.Tables.{table_key}
-use Rattle.stream_laws.proofs.Changing.{bytes_stay}
-use Rattle.stream_laws.proofs.Editing.{length-with_edits, other_file, edited_files}
-use Rattle.stream_laws.proofs.Framing.{same_links}
-use Rattle.stream_laws.proofs.Placing.{lies}
-use Rattle.stream_laws.proofs.Replacing.{clusters_replaced}
-use Rattle.stream_laws.proofs.Rewriting.{volume_parts}
-use Rattle.stream_laws.proofs.Sharing.{same_key}
-use Rattle.stream_laws.proofs.Loading.{same_record_bits}
-use Rattle.stream_laws.proofs.Tabling.{inside_list, no_list_stream, read_in_use}
-use Rattle.tree_laws.specs.Changed.{TouchesFiles, KeepsTouched}
-use Rattle.tree_laws.specs.Contents.{AgreeBut}
-use Rattle.tree_laws.specs.Keeping.{KeepsNames, KeepsDirectory}
-use Rattle.tree_laws.specs.Leaves.{names_there}
-use Rattle.tree_laws.specs.Owners.{TakesClusters}
-use Rattle.tree_laws.specs.Parts.{journal_number}
-use Rattle.tree_laws.specs.Planned.{IsInStream, IsInRecord, WritesWithin, SparesOthers}
-use Rattle.tree_laws.proofs.Agreeing.{same_upper, kept_sizes, same_journal, same_spares}
-use Rattle.tree_laws.proofs.Ascending.{all_by}
-use Rattle.tree_laws.proofs.Changing.{all_keep}
-use Rattle.tree_laws.proofs.Keeping.{rules_of, passes_below}
-use Rattle.tree_laws.proofs.Naming.{this_or_other, names_everywhere, file_elsewhere, links_kept}
-use Rattle.tree_laws.proofs.Climbing.{system_everywhere}
-use Rattle.tree_laws.proofs.Owning.{takes_5, takes_6}
-use Rattle.tree_laws.proofs.Parting.{record_bits_stay, cluster_bits_stay, upper_stays, number_stays, spare_stay}
-use Rattle.tree_laws.proofs.Planning.{planned_agree, planned_bytes, same_index_at}
-use Rattle.tree_laws.proofs.Ruling.{same_listed, same_name_in, same_count, keeps_both, rule_7}
-use Rattle.plan_owners.specs.States.{Stands}
-use Rattle.plan_owners.specs.Kinds.{OwnsAs}
-use Rattle.plan_owners.proofs.Standing.{some_file, as_file, rule_4_at}
-use Rattle.plan_bodies.specs.Bodies.{NewBody, whole_write, writes_in, content_with}
+use Rattle.plan_model.specs.state_model.Loads.{Slot, Free, Used, slot_of, slot_at, is_used, whole_record, has_fitting_pairs, has_all_pairs, table_slot, table_in, data_stream, has_cut_index_block}
+use Rattle.plan_model.specs.state_model.Rules.{implies, at_file, is_directory_with, keeps_names, keeps_1, keeps_2, keeps_8}
+use Rattle.plan_model.specs.state_model.Streams.{attributes_of, attribute_runs, stream_of, block_at, is_inside_block, cuts_block, has_cut_block}
+use Rattle.plan_model.specs.state_model.Trees.{is_system, is_nameless}
+use Rattle.plan_model.specs.volume_model.Volumes.{Volume, count_of, file_in, files_by_number, bytes_or, size_or, is_in_use, file_stream, record_bits, cluster_bits, table_file, mirror_file, bitmap_file, upcase_file, upper_of}
+use Rattle.plan_model.specs.volume_model.Indexes.{void_block, index_place, index_links, index_stream, stream_blocks, links_below, lists_names, keeps_index}
+use Rattle.plan_model.specs.volume_model.Nodes.{valid_or, clusters_or, data_flags, first_flags, has_sparse_run, sparse_if, why_not, is_unread, is_unchanged, kind_in, shows_data, data_shown, node_with, node_by, some_node, node_at, spare_numbers}
+use Rattle.plan_model.specs.volume_model.Owners.{file_runs, volume_runs, uses, keeps_record_bit}
+use Rattle.plan_model.specs.volume_model.Sizes.{fits_volume, keeps_stream, is_whole_file, has_hole, stream_has_torn, is_initialised, keeps_streams, keeps_sizes}
+use Rattle.plan_model.specs.volume_state.Journals.{entries_name, limits_name, entries_flags, file_or_none, journal_file, journal_of_streams, journal_of_file, journal_of, fault_of, some_journal}
+use Rattle.plan_model.specs.volume_state.Rules.{broken_1, broken_3, broken_9}
+use Rattle.plan_model.specs.index_model.Indexes.{Place}
+use Rattle.plan_model.specs.stream_laws.Leaving.{LiesFree}
+use Rattle.plan_model.specs.stream_laws.Owners.{holds_records, stream_kind, initialised_in, Owns, IsLive}
+use Rattle.plan_model.specs.stream_laws.Replacing.{FileEdit, OneFileDiffers, with_edits}
+use Rattle.plan_model.specs.stream_laws.Rewrites.{StandsAlone, is_edited, with_files}
+use Rattle.plan_model.specs.stream_laws.Sharing.{StreamKey, stream_at, runs_in}
+use Rattle.plan_model.specs.stream_laws.Tables.{table_key}
+use Rattle.plan_model.proofs.stream_laws.Changing.{bytes_stay}
+use Rattle.plan_model.proofs.stream_laws.Editing.{length-with_edits, other_file, edited_files}
+use Rattle.plan_model.proofs.stream_laws.Framing.{same_links}
+use Rattle.plan_model.proofs.stream_laws.Placing.{lies}
+use Rattle.plan_model.proofs.stream_laws.Replacing.{clusters_replaced}
+use Rattle.plan_model.proofs.stream_laws.Rewriting.{volume_parts}
+use Rattle.plan_model.proofs.stream_laws.Sharing.{same_key}
+use Rattle.plan_model.proofs.stream_laws.Loading.{same_record_bits}
+use Rattle.plan_model.proofs.stream_laws.Tabling.{inside_list, no_list_stream, read_in_use}
+use Rattle.plan_model.specs.tree_laws.Changed.{TouchesFiles, KeepsTouched}
+use Rattle.plan_model.specs.tree_laws.Contents.{AgreeBut}
+use Rattle.plan_model.specs.tree_laws.Keeping.{KeepsNames, KeepsDirectory}
+use Rattle.plan_model.specs.tree_laws.Leaves.{names_there}
+use Rattle.plan_model.specs.tree_laws.Owners.{TakesClusters}
+use Rattle.plan_model.specs.tree_laws.Parts.{journal_number}
+use Rattle.plan_model.specs.tree_laws.Planned.{IsInStream, IsInRecord, WritesWithin, SparesOthers}
+use Rattle.plan_model.proofs.tree_laws.Agreeing.{same_upper, kept_sizes, same_journal, same_spares}
+use Rattle.plan_model.proofs.tree_laws.Ascending.{all_by}
+use Rattle.plan_model.proofs.tree_laws.Changing.{all_keep}
+use Rattle.plan_model.proofs.tree_laws.Keeping.{rules_of, passes_below}
+use Rattle.plan_model.proofs.tree_laws.Naming.{this_or_other, names_everywhere, file_elsewhere, links_kept}
+use Rattle.plan_model.proofs.tree_laws.Climbing.{system_everywhere}
+use Rattle.plan_model.proofs.tree_laws.Owning.{takes_5, takes_6}
+use Rattle.plan_model.proofs.tree_laws.Parting.{record_bits_stay, cluster_bits_stay, upper_stays, number_stays, spare_stay}
+use Rattle.plan_model.proofs.tree_laws.Planning.{planned_agree, planned_bytes, same_index_at}
+use Rattle.plan_model.proofs.tree_laws.Ruling.{same_listed, same_name_in, same_count, keeps_both, rule_7}
+use Rattle.plan_model.specs.plan_owners.States.{Stands}
+use Rattle.plan_model.specs.plan_owners.Kinds.{OwnsAs}
+use Rattle.plan_model.proofs.plan_owners.Standing.{some_file, as_file, rule_4_at}
+use Rattle.plan_model.specs.plan_bodies.Bodies.{NewBody, whole_write, writes_in, content_with}
 use Rattle.plan_model.specs.Drafts.{FollowsOwners, GoesOn, IsPut}
 use Rattle.plan_model.specs.Edits.{IsOwnedIn, WritesFiles, LeadsTo}
 use Rattle.plan_model.specs.Informed.{with_record}
@@ -91,7 +91,7 @@ use Rattle.plan_model.proofs.Informing.{slot_in_use, marked_in_use, implied}
 use Rattle.plan_model.proofs.OneRecord.{streams_test, by_test, sizes_from, OwnRecord, own_record, slot_begins, slot_put, file_slot}
 use Rattle.plan_model.proofs.Quiet.{record_owned}
 use Rattle.plan_model.proofs.Stepping.{written_within, files_edited, tree_nodes}
-use Rattle.record_streams.specs.Placing.{placed_record}
+use Rattle.resized_streams.specs.record_streams.Placing.{placed_record}
 use Rattle.plan_growth.specs.Streams.{IsOwnStream, IsWritten, key_of, marks_streams, PutsFile, IsFreshIn, PutsFresh}
 use Rattle.plan_growth.proofs.Placed.{same_or_other, some_attributes, stream_type, placed_head, placed_types, placed_directory, placed_links, placed_names, placed_root, placed_info, placed_is_there, other_pieces, other_stream, placed_uses, placed_sizes, placed_all}
 use Rattle.plan_growth.proofs.Written.{Reads, all_read, placed_reads, written_types, written_directory, written_links, written_names, written_root, written_info, written_stream, written_flags, written_runs, written_sizes}

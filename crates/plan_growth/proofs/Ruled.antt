@@ -2,22 +2,22 @@
 use Rattle.std.proofs.Common.{◌≡◌, ◌≢◌, ℕ, ◌*◌, ◌≤◌, true, ◌&&◌, eqb, leb, List, ◌∷◌, Some, sym, ap, subst, ◌∙◌}
 use Rattle.std.specs.List.{list_all, flat_map}
 use Rattle.std.proofs.lemmas.Bool.{and_parts, both_ways, leb-true, eqb-true, eq-eqb}
-use Rattle.disk_model.specs.Content.{Content}
-use Rattle.record_model.specs.declared.attribute.Attr.{Attr}
-use Rattle.record_model.specs.declared.runs.Run.{Run}
-use Rattle.record_model.specs.Constants.{file_name}
-use Rattle.record_model.specs.Records.{Record}
-use Rattle.state_model.specs.declared.geometry.Geometry.{Geometry}
-use Rattle.state_model.specs.declared.stream.Extents.{Extents}
-use Rattle.state_model.specs.declared.stream.Stream.{Stream}
-use Rattle.state_model.specs.declared.stream.Stream.TheVariants.{Placed}
-use Rattle.state_model.specs.Loads.{total_clusters}
-use Rattle.state_model.specs.Streams.{attributes_of, attribute_runs, stream_of}
-use Rattle.volume_model.specs.Volumes.{Volume}
-use Rattle.volume_model.specs.Owners.{uses}
-use Rattle.volume_model.specs.Sizes.{are_joined, lies_inside, has_sizes, fits_volume, keeps_streams}
-use Rattle.plan_owners.specs.States.{Stands}
-use Rattle.plan_owners.proofs.Standing.{streams_at}
+use Rattle.plan_model.specs.disk_model.Content.{Content}
+use Rattle.plan_model.specs.record_model.declared.attribute.Attr.{Attr}
+use Rattle.plan_model.specs.record_model.declared.runs.Run.{Run}
+use Rattle.plan_model.specs.record_model.Constants.{file_name}
+use Rattle.plan_model.specs.record_model.Records.{Record}
+use Rattle.plan_model.specs.state_model.declared.geometry.Geometry.{Geometry}
+use Rattle.plan_model.specs.state_model.declared.stream.Extents.{Extents}
+use Rattle.plan_model.specs.state_model.declared.stream.Stream.{Stream}
+use Rattle.plan_model.specs.state_model.declared.stream.Stream.TheVariants.{Placed}
+use Rattle.plan_model.specs.state_model.Loads.{total_clusters}
+use Rattle.plan_model.specs.state_model.Streams.{attributes_of, attribute_runs, stream_of}
+use Rattle.plan_model.specs.volume_model.Volumes.{Volume}
+use Rattle.plan_model.specs.volume_model.Owners.{uses}
+use Rattle.plan_model.specs.volume_model.Sizes.{are_joined, lies_inside, has_sizes, fits_volume, keeps_streams}
+use Rattle.plan_model.specs.plan_owners.States.{Stands}
+use Rattle.plan_model.proofs.plan_owners.Standing.{streams_at}
 use Rattle.plan_growth.specs.Streams.{IsOwnStream}
 use Rattle.plan_growth.proofs.Placed.{some_attributes, runs_of_attributes, stream_rule}
 

@@ -3,13 +3,13 @@ use Rattle.std.proofs.Common.{◌≡◌, ◌⊎◌, ℕ, ◌+◌, ◌-◌, ◌<�
 use Rattle.std.specs.Prelude.{map}
 use Rattle.std.specs.List.{list_all, list_any}
 use Rattle.std.proofs.lemmas.Bool.{cases_lt, and_parts, and_from, or_parts, or_from, leb-true, le-leb, eqb-true}
-use Rattle.record_model.specs.declared.runs.Run.{Run}
-use Rattle.record_model.specs.Pairs.{Follow, HasSpelling}
-use Rattle.state_model.specs.Loads.{total_clusters}
-use Rattle.volume_model.specs.Indexes.{runs_end}
-use Rattle.volume_model.specs.Sizes.{lies_below, lies_inside, is_hole}
-use Rattle.stream_runs.specs.Runs.{touches, in_front, merged, moved, grown, front}
-use Rattle.stream_runs.proofs.Places.{cut, front_whole, front_cut}
+use Rattle.plan_model.specs.record_model.declared.runs.Run.{Run}
+use Rattle.plan_model.specs.record_model.Pairs.{Follow, HasSpelling}
+use Rattle.plan_model.specs.state_model.Loads.{total_clusters}
+use Rattle.plan_model.specs.volume_model.Indexes.{runs_end}
+use Rattle.plan_model.specs.volume_model.Sizes.{lies_below, lies_inside, is_hole}
+use Rattle.resized_streams.specs.stream_runs.Runs.{touches, in_front, merged, moved, grown, front}
+use Rattle.resized_streams.proofs.stream_runs.Places.{cut, front_whole, front_cut}
 
 -- ---- what each run has
 

@@ -6,34 +6,34 @@ use Rattle.std.proofs.lemmas.Bool.{and_parts}
 use Rattle.std.proofs.lemmas.List.{append-nil}
 use Rattle.std.proofs.lemmas.List.Elements.{All-nil, All-cons, All-head, All-tail, All-filter}
 use Rattle.host_base.specs.declared.file_ref.FileRef.{FileRef}
-use Rattle.record_model.specs.declared.attribute.Sizes.{Sizes}
-use Rattle.record_model.specs.declared.attribute.OwnForm.{OwnForm}
-use Rattle.record_model.specs.declared.attribute.OwnForm.TheVariants.{Resident, Mapped}
-use Rattle.record_model.specs.declared.attribute.Attr.{Attr}
-use Rattle.record_model.specs.declared.runs.Run.{Run}
-use Rattle.record_model.specs.declared.runs.PairsFault.{PairsFault}
-use Rattle.record_model.specs.Attributes.{filled}
-use Rattle.record_model.specs.Constants.{file_name, standard_information}
-use Rattle.record_model.specs.Pairs.{runs_of, pairs_of, HasSpelling}
-use Rattle.record_model.specs.Records.{Record}
-use Rattle.record_model.proofs.PairsRead.{spelled_read}
-use Rattle.record_model.proofs.PairsSpelled.{written_spelled}
-use Rattle.file_tree.specs.declared.link.Link.{Link}
-use Rattle.state_model.specs.declared.stream.Extents.{Extents}
-use Rattle.state_model.specs.declared.stream.Stream.{Stream}
-use Rattle.state_model.specs.Files.{form_link, attr_link, record_links, is_directory_record, has_type, form_info, attr_info, info_of}
-use Rattle.state_model.specs.Indexes.{is_names_root}
-use Rattle.state_model.specs.Loads.{total_clusters, span, form_fits, has_fitting_pairs}
-use Rattle.state_model.specs.Rules.{keeps_names}
-use Rattle.state_model.specs.Streams.{form_first, first_vcn, is_attribute_of, with_attribute, sorted_into, attributes_of, runs_or, attribute_runs, form_stream, joined, stream_of}
-use Rattle.volume_model.specs.Indexes.{form_value, attr_value, root_value}
-use Rattle.volume_model.specs.Nodes.{first_flags}
-use Rattle.volume_model.specs.Owners.{file_runs}
-use Rattle.volume_model.specs.Sizes.{follow, are_joined, fits_volume, keeps_stream}
-use Rattle.record_writer.specs.Normal.{normal_form, normal}
-use Rattle.record_writer.proofs.Filling.{filled_read}
-use Rattle.record_streams.specs.Placing.{placed_attr}
-use Rattle.record_streams.proofs.Kept.{all_of_stream}
+use Rattle.plan_model.specs.record_model.declared.attribute.Sizes.{Sizes}
+use Rattle.plan_model.specs.record_model.declared.attribute.OwnForm.{OwnForm}
+use Rattle.plan_model.specs.record_model.declared.attribute.OwnForm.TheVariants.{Resident, Mapped}
+use Rattle.plan_model.specs.record_model.declared.attribute.Attr.{Attr}
+use Rattle.plan_model.specs.record_model.declared.runs.Run.{Run}
+use Rattle.plan_model.specs.record_model.declared.runs.PairsFault.{PairsFault}
+use Rattle.plan_model.specs.record_model.Attributes.{filled}
+use Rattle.plan_model.specs.record_model.Constants.{file_name, standard_information}
+use Rattle.plan_model.specs.record_model.Pairs.{runs_of, pairs_of, HasSpelling}
+use Rattle.plan_model.specs.record_model.Records.{Record}
+use Rattle.plan_model.proofs.record_model.PairsRead.{spelled_read}
+use Rattle.plan_model.proofs.record_model.PairsSpelled.{written_spelled}
+use Rattle.plan_model.specs.file_tree.declared.link.Link.{Link}
+use Rattle.plan_model.specs.state_model.declared.stream.Extents.{Extents}
+use Rattle.plan_model.specs.state_model.declared.stream.Stream.{Stream}
+use Rattle.plan_model.specs.state_model.Files.{form_link, attr_link, record_links, is_directory_record, has_type, form_info, attr_info, info_of}
+use Rattle.plan_model.specs.state_model.Indexes.{is_names_root}
+use Rattle.plan_model.specs.state_model.Loads.{total_clusters, span, form_fits, has_fitting_pairs}
+use Rattle.plan_model.specs.state_model.Rules.{keeps_names}
+use Rattle.plan_model.specs.state_model.Streams.{form_first, first_vcn, is_attribute_of, with_attribute, sorted_into, attributes_of, runs_or, attribute_runs, form_stream, joined, stream_of}
+use Rattle.plan_model.specs.volume_model.Indexes.{form_value, attr_value, root_value}
+use Rattle.plan_model.specs.volume_model.Nodes.{first_flags}
+use Rattle.plan_model.specs.volume_model.Owners.{file_runs}
+use Rattle.plan_model.specs.volume_model.Sizes.{follow, are_joined, fits_volume, keeps_stream}
+use Rattle.resized_streams.specs.record_writer.Normal.{normal_form, normal}
+use Rattle.resized_streams.proofs.record_writer.Filling.{filled_read}
+use Rattle.resized_streams.specs.record_streams.Placing.{placed_attr}
+use Rattle.resized_streams.proofs.record_streams.Kept.{all_of_stream}
 use Rattle.plan_growth.specs.Streams.{IsWritten}
 
 -- ---- one attribute

@@ -1,9 +1,9 @@
 -- Chosen clusters may be taken.
 use Rattle.std.specs.Prelude.{◌≡◌, ◌≤◌, ℕ, Bool, false, List, length, Option}
-use Rattle.record_model.specs.Pairs.{cluster_limit}
-use Rattle.bit_set.specs.Bits.{bit}
-use Rattle.state_model.specs.Loads.{total_clusters}
-use Rattle.space_model.specs.Choosing.{chosen}
+use Rattle.plan_model.specs.record_model.Pairs.{cluster_limit}
+use Rattle.plan_model.specs.bit_set.Bits.{bit}
+use Rattle.plan_model.specs.state_model.Loads.{total_clusters}
+use Rattle.resized_streams.specs.space_model.Choosing.{chosen}
 use Rattle.plan_growth.specs.Streams.{MayTake}
 
 -- Runs that are chosen from bits may be taken where each cluster that is clear in these is clear in the others too, as in the bitmap of

@@ -1,30 +1,30 @@
 -- A stream gets other sizes in the clusters that it has.
 use Rattle.std.specs.Prelude.{◌≡◌, ◌≢◌, ◌≤◌, ◌<◌, ◌*◌, ◌==◌, ◌&&◌, ◌||◌, nat_eq, ℕ, Bool, false, List, [], ◌∷◌, Option, Some}
 use Rattle.std.specs.Cmp.Lexicographic.{pointwise}
-use Rattle.disk_model.specs.declared.block.Block.{Block}
-use Rattle.disk_model.specs.declared.block.BlockKind.{BlockKind}
-use Rattle.disk_model.specs.Content.{Content, HasSizes}
-use Rattle.disk_model.specs.Sectors.{sectors}
-use Rattle.record_model.specs.Constants.{index_allocation}
-use Rattle.record_model.specs.Pairs.{HasSpelling}
-use Rattle.record_model.specs.Records.{Record}
-use Rattle.bit_set.specs.Bits.{bit}
-use Rattle.state_model.specs.declared.geometry.Geometry.{Geometry}
-use Rattle.state_model.specs.declared.stream.Extents.{Extents}
-use Rattle.state_model.specs.declared.stream.Stream.TheVariants.{Placed}
-use Rattle.state_model.specs.Streams.{block_at}
-use Rattle.volume_model.specs.Volumes.{Volume, cluster_bits}
-use Rattle.stream_laws.specs.Owners.{stream_kind}
-use Rattle.stream_laws.specs.Rewrites.{is_edited}
-use Rattle.stream_laws.specs.Sharing.{StreamKey, stream_at}
+use Rattle.plan_model.specs.disk_model.declared.block.Block.{Block}
+use Rattle.plan_model.specs.disk_model.declared.block.BlockKind.{BlockKind}
+use Rattle.plan_model.specs.disk_model.Content.{Content, HasSizes}
+use Rattle.plan_model.specs.disk_model.Sectors.{sectors}
+use Rattle.plan_model.specs.record_model.Constants.{index_allocation}
+use Rattle.plan_model.specs.record_model.Pairs.{HasSpelling}
+use Rattle.plan_model.specs.record_model.Records.{Record}
+use Rattle.plan_model.specs.bit_set.Bits.{bit}
+use Rattle.plan_model.specs.state_model.declared.geometry.Geometry.{Geometry}
+use Rattle.plan_model.specs.state_model.declared.stream.Extents.{Extents}
+use Rattle.plan_model.specs.state_model.declared.stream.Stream.TheVariants.{Placed}
+use Rattle.plan_model.specs.state_model.Streams.{block_at}
+use Rattle.plan_model.specs.volume_model.Volumes.{Volume, cluster_bits}
+use Rattle.plan_model.specs.stream_laws.Owners.{stream_kind}
+use Rattle.plan_model.specs.stream_laws.Rewrites.{is_edited}
+use Rattle.plan_model.specs.stream_laws.Sharing.{StreamKey, stream_at}
 use Rattle.resized_streams.specs.declared.resized.Resized.{Resized}
 use Rattle.resized_streams.specs.Resizing.{IsSized}
-use Rattle.plan_bodies.specs.Bodies.{NewBody, content_with}
-use Rattle.plan_owners.specs.States.{Stands}
+use Rattle.plan_model.specs.plan_bodies.Bodies.{NewBody, content_with}
+use Rattle.plan_model.specs.plan_owners.States.{Stands}
 use Rattle.plan_model.specs.Drafts.{GoesOn, IsPut}
 use Rattle.plan_model.specs.Edits.{LeadsTo}
 use Rattle.plan_model.specs.Informed.{with_record}
-use Rattle.volume_model.specs.Sizes.{has_hole}
+use Rattle.plan_model.specs.volume_model.Sizes.{has_hole}
 use Rattle.plan_growth.specs.Trees.{TreeFollows}
 use Rattle.plan_growth.specs.Streams.{IsOwnStream, IsWritten, key_of, marks_streams, PutsFile}
 

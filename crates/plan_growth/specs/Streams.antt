@@ -2,27 +2,27 @@
 use Rattle.std.specs.Prelude.{◌≡◌, ◌≢◌, ◌⊎◌, ℕ, ◌<◌, ◌==◌, ◌&&◌, ◌||◌, nat_eq, Bool, true, false, List, [], map, Some}
 use Rattle.std.specs.Cmp.Lexicographic.{pointwise}
 use Rattle.std.specs.List.{AllByRecursion, list_all, list_any}
-use Rattle.disk_model.specs.declared.block.BlockKind.TheVariants.{FileRec}
-use Rattle.record_model.specs.declared.runs.Run.{Run}
-use Rattle.record_model.specs.Constants.{attribute_list, data_type, index_allocation, index_root}
-use Rattle.record_model.specs.Pairs.{HasSpelling}
-use Rattle.record_model.specs.Records.{Record}
-use Rattle.bit_set.specs.Bits.{bit}
-use Rattle.state_model.specs.declared.stream.Stream.{Stream}
-use Rattle.state_model.specs.Files.{has_type}
-use Rattle.state_model.specs.Streams.{block_at, stream_of}
-use Rattle.volume_model.specs.Volumes.{Volume, file_in, mirror_file, bitmap_file}
-use Rattle.volume_model.specs.Owners.{uses}
-use Rattle.volume_model.specs.Sizes.{lies_inside, is_hole}
-use Rattle.volume_state.specs.Journals.{entries_name}
-use Rattle.stream_laws.specs.Leaving.{LiesFree}
-use Rattle.stream_laws.specs.Owners.{stream_kind}
-use Rattle.disk_model.specs.declared.block.Block.{Block}
-use Rattle.stream_laws.specs.Places.{AreOnce}
-use Rattle.stream_laws.specs.Sharing.{StreamKey, stream_at, runs_in}
-use Rattle.record_writer.specs.Normal.{normal}
-use Rattle.record_streams.specs.Fitting.{IsPlaceable}
-use Rattle.plan_bodies.specs.Bodies.{NewBody, AreBodies}
+use Rattle.plan_model.specs.disk_model.declared.block.BlockKind.TheVariants.{FileRec}
+use Rattle.plan_model.specs.record_model.declared.runs.Run.{Run}
+use Rattle.plan_model.specs.record_model.Constants.{attribute_list, data_type, index_allocation, index_root}
+use Rattle.plan_model.specs.record_model.Pairs.{HasSpelling}
+use Rattle.plan_model.specs.record_model.Records.{Record}
+use Rattle.plan_model.specs.bit_set.Bits.{bit}
+use Rattle.plan_model.specs.state_model.declared.stream.Stream.{Stream}
+use Rattle.plan_model.specs.state_model.Files.{has_type}
+use Rattle.plan_model.specs.state_model.Streams.{block_at, stream_of}
+use Rattle.plan_model.specs.volume_model.Volumes.{Volume, file_in, mirror_file, bitmap_file}
+use Rattle.plan_model.specs.volume_model.Owners.{uses}
+use Rattle.plan_model.specs.volume_model.Sizes.{lies_inside, is_hole}
+use Rattle.plan_model.specs.volume_state.Journals.{entries_name}
+use Rattle.plan_model.specs.stream_laws.Leaving.{LiesFree}
+use Rattle.plan_model.specs.stream_laws.Owners.{stream_kind}
+use Rattle.plan_model.specs.disk_model.declared.block.Block.{Block}
+use Rattle.plan_model.specs.stream_laws.Places.{AreOnce}
+use Rattle.plan_model.specs.stream_laws.Sharing.{StreamKey, stream_at, runs_in}
+use Rattle.resized_streams.specs.record_writer.Normal.{normal}
+use Rattle.resized_streams.specs.record_streams.Fitting.{IsPlaceable}
+use Rattle.plan_model.specs.plan_bodies.Bodies.{NewBody, AreBodies}
 use Rattle.plan_model.specs.Edits.{IsOwnedIn}
 use Rattle.plan_model.specs.Informed.{IsApart, with_record}
 use Rattle.plan_model.specs.Made.{ReadsAs}

@@ -1,15 +1,15 @@
 -- The tree where a stream of one file comes to have other clusters or sizes.
 use Rattle.std.specs.Prelude.{◌≡◌, ◌≢◌, ℕ, List, Option}
 use Rattle.std.specs.Option.{option_map}
-use Rattle.disk_model.specs.Content.{Content}
-use Rattle.record_model.specs.Records.{Record}
-use Rattle.file_tree.specs.declared.node.Node.{Node}
-use Rattle.file_tree.specs.declared.tree.Tree.{Tree}
-use Rattle.file_tree.specs.Trees.{node_at as node_by_number}
-use Rattle.state_model.specs.declared.stream.Stream.{Stream}
-use Rattle.volume_model.specs.Volumes.{Volume, bytes_or, size_or}
-use Rattle.volume_model.specs.Nodes.{valid_or, clusters_or, kind_in, data_shown}
-use Rattle.volume_state.specs.Trees.{tree_of}
+use Rattle.plan_model.specs.disk_model.Content.{Content}
+use Rattle.plan_model.specs.record_model.Records.{Record}
+use Rattle.plan_model.specs.file_tree.declared.node.Node.{Node}
+use Rattle.plan_model.specs.file_tree.declared.tree.Tree.{Tree}
+use Rattle.plan_model.specs.file_tree.Trees.{node_at as node_by_number}
+use Rattle.plan_model.specs.state_model.declared.stream.Stream.{Stream}
+use Rattle.plan_model.specs.volume_model.Volumes.{Volume, bytes_or, size_or}
+use Rattle.plan_model.specs.volume_model.Nodes.{valid_or, clusters_or, kind_in, data_shown}
+use Rattle.plan_model.specs.volume_state.Trees.{tree_of}
 use Rattle.plan_model.specs.Informed.{with_record}
 
 -- the node with this data, of these bytes

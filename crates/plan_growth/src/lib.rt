@@ -8,3 +8,5 @@
 mod laws;
 
 pub use laws::{chosen_may_be_taken, stream_cut, stream_grown, stream_sized, value_moved};
+pub use plan_model::{DirPlace, DirPlan, FixedValue, NodesPlan, lay_out, stream_of};
+pub use resized_streams::{FileRec, push_copies, push_copy, sized};

@@ -3,29 +3,29 @@ use Rattle.std.proofs.Common.{◌≡◌, ℕ, ◌%◌, true, List, [], ◌∷◌
 use Rattle.std.specs.List.{list_all}
 use Rattle.std.proofs.lemmas.Bool.{or_left}
 use Rattle.disk_model.specs.Content.{Content}
-use Rattle.record_model.specs.declared.attribute.Attr.{Attr}
-use Rattle.record_model.specs.Constants.{data_type}
-use Rattle.record_model.specs.Records.{Record}
-use Rattle.state_model.specs.declared.geometry.Geometry.{Geometry}
-use Rattle.state_model.specs.declared.stream.Extents.{Extents}
-use Rattle.state_model.specs.Loads.{has_fitting_pairs, has_all_pairs}
-use Rattle.state_model.specs.Streams.{stream_of}
-use Rattle.volume_model.specs.Volumes.{Volume}
-use Rattle.volume_model.specs.Nodes.{first_flags, data_flags}
-use Rattle.plan_owners.specs.States.{Stands}
-use Rattle.plan_bodies.specs.Bodies.{NewBody}
-use Rattle.plan_draft.specs.declared.touched.Touched.{Touched}
-use Rattle.plan_draft.specs.Drafts.{drafted}
-use Rattle.plan_model.specs.Attributes.{IsValue, RewritesValues}
-use Rattle.plan_model.specs.Informed.{is_info}
-use Rattle.plan_model.specs.Parts.{ReplacesAttrs}
-use Rattle.plan_model.proofs.OneRecord.{own_record}
-use Rattle.plan_model.proofs.Rewriting.{same_attributes}
-use Rattle.draft_records.specs.Records.{written_record}
-use Rattle.plan_values.specs.Values.{is_data, is_info_or_data, IsOwnFile, WritesValues}
-use Rattle.plan_values.specs.Made.{MakesData}
-use Rattle.plan_values.proofs.Valued.{pairs_fit, data_spared}
-use Rattle.plan_values.proofs.Made.{made_fits}
+use Rattle.plan_edits.specs.record_model.declared.attribute.Attr.{Attr}
+use Rattle.plan_edits.specs.record_model.Constants.{data_type}
+use Rattle.plan_edits.specs.record_model.Records.{Record}
+use Rattle.plan_edits.specs.state_model.declared.geometry.Geometry.{Geometry}
+use Rattle.plan_edits.specs.state_model.declared.stream.Extents.{Extents}
+use Rattle.plan_edits.specs.state_model.Loads.{has_fitting_pairs, has_all_pairs}
+use Rattle.plan_edits.specs.state_model.Streams.{stream_of}
+use Rattle.plan_edits.specs.volume_model.Volumes.{Volume}
+use Rattle.plan_edits.specs.volume_model.Nodes.{first_flags, data_flags}
+use Rattle.plan_edits.specs.plan_owners.States.{Stands}
+use Rattle.plan_edits.specs.plan_bodies.Bodies.{NewBody}
+use Rattle.plan_edits.specs.plan_draft.declared.touched.Touched.{Touched}
+use Rattle.plan_edits.specs.plan_draft.Drafts.{drafted}
+use Rattle.plan_edits.specs.plan_model.Attributes.{IsValue, RewritesValues}
+use Rattle.plan_edits.specs.plan_model.Informed.{is_info}
+use Rattle.plan_edits.specs.plan_model.Parts.{ReplacesAttrs}
+use Rattle.plan_edits.proofs.plan_model.OneRecord.{own_record}
+use Rattle.plan_edits.proofs.plan_model.Rewriting.{same_attributes}
+use Rattle.plan_edits.specs.draft_records.Records.{written_record}
+use Rattle.plan_edits.specs.plan_values.Values.{is_data, is_info_or_data, IsOwnFile, WritesValues}
+use Rattle.plan_edits.specs.plan_values.Made.{MakesData}
+use Rattle.plan_edits.proofs.plan_values.Valued.{pairs_fit, data_spared}
+use Rattle.plan_edits.proofs.plan_values.Made.{made_fits}
 use Rattle.plan_edits.specs.Written.{IsInUse}
 use Rattle.plan_edits.specs.Moves.{EditsDraft}
 use Rattle.plan_edits.specs.Records.{PutsRecordOf, IsRecordEdit}

@@ -4,32 +4,32 @@ use Rattle.std.specs.Prelude.{filter}
 use Rattle.std.specs.List.{flat_map, AllByRecursion}
 use Rattle.std.proofs.lemmas.Bool.{and_parts, both_ways, cases_Bool}
 use Rattle.disk_model.specs.Content.{Content}
-use Rattle.record_model.specs.declared.attribute.Attr.{Attr}
-use Rattle.record_model.specs.declared.attribute.OwnForm.{OwnForm}
-use Rattle.record_model.specs.declared.attribute.OwnForm.TheVariants.{Resident, Mapped}
-use Rattle.record_model.specs.declared.runs.Run.{Run}
-use Rattle.record_model.specs.Constants.{data_type}
-use Rattle.record_model.specs.Records.{Record}
-use Rattle.state_model.specs.declared.geometry.Geometry.{Geometry}
-use Rattle.state_model.specs.declared.stream.Stream.{Stream}
-use Rattle.state_model.specs.declared.stream.Stream.TheVariants.{Held}
-use Rattle.state_model.specs.Loads.{total_clusters}
-use Rattle.state_model.specs.Streams.{is_attribute_of, with_attribute, sorted_into, attributes_of, attribute_runs, joined, form_stream, form_runs, form_first, stream_of}
-use Rattle.volume_model.specs.Volumes.{Volume}
-use Rattle.volume_model.specs.Nodes.{first_flags, data_flags}
-use Rattle.volume_model.specs.Sizes.{are_joined, follow}
-use Rattle.plan_owners.specs.States.{Stands}
-use Rattle.plan_model.specs.Attributes.{IsValue, IsRewritten, AreRewritten, RewritesValues}
-use Rattle.plan_model.proofs.Rewriting.{all_same}
-use Rattle.record_streams.specs.Placing.{without_stream, with_stream}
+use Rattle.plan_edits.specs.record_model.declared.attribute.Attr.{Attr}
+use Rattle.plan_edits.specs.record_model.declared.attribute.OwnForm.{OwnForm}
+use Rattle.plan_edits.specs.record_model.declared.attribute.OwnForm.TheVariants.{Resident, Mapped}
+use Rattle.plan_edits.specs.record_model.declared.runs.Run.{Run}
+use Rattle.plan_edits.specs.record_model.Constants.{data_type}
+use Rattle.plan_edits.specs.record_model.Records.{Record}
+use Rattle.plan_edits.specs.state_model.declared.geometry.Geometry.{Geometry}
+use Rattle.plan_edits.specs.state_model.declared.stream.Stream.{Stream}
+use Rattle.plan_edits.specs.state_model.declared.stream.Stream.TheVariants.{Held}
+use Rattle.plan_edits.specs.state_model.Loads.{total_clusters}
+use Rattle.plan_edits.specs.state_model.Streams.{is_attribute_of, with_attribute, sorted_into, attributes_of, attribute_runs, joined, form_stream, form_runs, form_first, stream_of}
+use Rattle.plan_edits.specs.volume_model.Volumes.{Volume}
+use Rattle.plan_edits.specs.volume_model.Nodes.{first_flags, data_flags}
+use Rattle.plan_edits.specs.volume_model.Sizes.{are_joined, follow}
+use Rattle.plan_edits.specs.plan_owners.States.{Stands}
+use Rattle.plan_edits.specs.plan_model.Attributes.{IsValue, IsRewritten, AreRewritten, RewritesValues}
+use Rattle.plan_edits.proofs.plan_model.Rewriting.{all_same}
+use Rattle.record_values.specs.record_streams.Placing.{without_stream, with_stream}
 use Rattle.record_values.specs.Values.{valued_attr, valued_first}
 use Rattle.record_values.proofs.Valued.{values_put}
-use Rattle.plan_growth.specs.Streams.{IsOwnStream}
-use Rattle.plan_growth.proofs.Placed.{some_attributes}
-use Rattle.plan_growth.proofs.Ruled.{stream_joined}
-use Rattle.plan_values.specs.Values.{is_data, IsOwnFile}
-use Rattle.plan_values.proofs.Valued.{entries_named}
-use Rattle.plan_values.proofs.Made.{none_pass}
+use Rattle.plan_edits.specs.plan_growth.Streams.{IsOwnStream}
+use Rattle.plan_edits.proofs.plan_growth.Placed.{some_attributes}
+use Rattle.plan_edits.proofs.plan_growth.Ruled.{stream_joined}
+use Rattle.plan_edits.specs.plan_values.Values.{is_data, IsOwnFile}
+use Rattle.plan_edits.proofs.plan_values.Valued.{entries_named}
+use Rattle.plan_edits.proofs.plan_values.Made.{none_pass}
 use Rattle.plan_informed.specs.Valued.{with_value, ValuedRewrites}
 
 -- ---- a stream of one attribute

@@ -1,24 +1,24 @@
 -- A record that a draft has put, with other values than the one that stands, is an edit of a plan.
 use Rattle.std.specs.Prelude.{◌≡◌, ℕ, true, List, [], ◌∷◌, None}
 use Rattle.disk_model.specs.Content.{Content}
-use Rattle.record_model.specs.declared.attribute.Attr.{Attr}
-use Rattle.record_model.specs.Constants.{data_type}
-use Rattle.record_model.specs.Records.{Record}
-use Rattle.state_model.specs.declared.geometry.Geometry.{Geometry}
-use Rattle.state_model.specs.declared.stream.Extents.{Extents}
-use Rattle.state_model.specs.Streams.{stream_of}
-use Rattle.volume_model.specs.Volumes.{Volume}
-use Rattle.volume_model.specs.Nodes.{data_flags}
-use Rattle.plan_owners.specs.States.{Stands}
-use Rattle.plan_bodies.specs.Bodies.{NewBody}
-use Rattle.plan_draft.specs.declared.touched.Touched.{Touched}
-use Rattle.plan_draft.specs.Drafts.{drafted}
-use Rattle.plan_model.specs.Attributes.{IsValue, RewritesValues}
-use Rattle.plan_model.specs.Informed.{is_info}
-use Rattle.plan_model.specs.Parts.{ReplacesAttrs}
-use Rattle.draft_records.specs.Records.{written_record}
-use Rattle.plan_values.specs.Values.{is_data, is_info_or_data, IsOwnFile, WritesValues}
-use Rattle.plan_values.specs.Made.{MakesData}
+use Rattle.plan_edits.specs.record_model.declared.attribute.Attr.{Attr}
+use Rattle.plan_edits.specs.record_model.Constants.{data_type}
+use Rattle.plan_edits.specs.record_model.Records.{Record}
+use Rattle.plan_edits.specs.state_model.declared.geometry.Geometry.{Geometry}
+use Rattle.plan_edits.specs.state_model.declared.stream.Extents.{Extents}
+use Rattle.plan_edits.specs.state_model.Streams.{stream_of}
+use Rattle.plan_edits.specs.volume_model.Volumes.{Volume}
+use Rattle.plan_edits.specs.volume_model.Nodes.{data_flags}
+use Rattle.plan_edits.specs.plan_owners.States.{Stands}
+use Rattle.plan_edits.specs.plan_bodies.Bodies.{NewBody}
+use Rattle.plan_edits.specs.plan_draft.declared.touched.Touched.{Touched}
+use Rattle.plan_edits.specs.plan_draft.Drafts.{drafted}
+use Rattle.plan_edits.specs.plan_model.Attributes.{IsValue, RewritesValues}
+use Rattle.plan_edits.specs.plan_model.Informed.{is_info}
+use Rattle.plan_edits.specs.plan_model.Parts.{ReplacesAttrs}
+use Rattle.plan_edits.specs.draft_records.Records.{written_record}
+use Rattle.plan_edits.specs.plan_values.Values.{is_data, is_info_or_data, IsOwnFile, WritesValues}
+use Rattle.plan_edits.specs.plan_values.Made.{MakesData}
 use Rattle.plan_edits.specs.Moves.{EditsDraft}
 use Rattle.plan_edits.specs.Records.{PutsRecordOf}
 

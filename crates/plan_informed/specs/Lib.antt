@@ -1,2 +1,29 @@
+pub use Rattle.plan_edits.specs as plan_edits
+pub use Rattle.plan_edits.specs.draft_bits
+pub use Rattle.plan_edits.specs.draft_records
+pub use Rattle.plan_edits.specs.draft_resized
+pub use Rattle.plan_edits.specs.draft_runs
+pub use Rattle.plan_edits.specs.draft_streams
+pub use Rattle.plan_edits.specs.index_change
+pub use Rattle.plan_edits.specs.index_model
+pub use Rattle.plan_edits.specs.index_tree
+pub use Rattle.plan_edits.specs.plan_bodies
+pub use Rattle.plan_edits.specs.plan_draft
+pub use Rattle.plan_edits.specs.plan_growth
+pub use Rattle.plan_edits.specs.plan_model
+pub use Rattle.plan_edits.specs.plan_owners
+pub use Rattle.plan_edits.specs.plan_values
+pub use Rattle.plan_edits.specs.record_model
+pub use Rattle.plan_edits.specs.record_writer
+pub use Rattle.plan_edits.specs.resized_streams
+pub use Rattle.plan_edits.specs.space_model
+pub use Rattle.plan_edits.specs.state_model
+pub use Rattle.plan_edits.specs.stream_laws
+pub use Rattle.plan_edits.specs.stream_runs
+pub use Rattle.plan_edits.specs.tree_laws
+pub use Rattle.plan_edits.specs.volume_model
+pub use Rattle.plan_edits.specs.volume_state
+pub use Rattle.record_values.specs as record_values
+pub use Rattle.record_values.specs.record_streams
 pub mod Edits
 pub mod Valued

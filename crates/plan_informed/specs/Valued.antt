@@ -1,18 +1,18 @@
 -- A record with another value of its unnamed data.
 use Rattle.std.specs.Prelude.{◌≡◌, ℕ, true, Bool, List, [], Some}
 use Rattle.disk_model.specs.Content.{Content}
-use Rattle.record_model.specs.declared.attribute.Attr.{Attr}
-use Rattle.record_model.specs.Constants.{data_type}
-use Rattle.record_model.specs.Records.{Record}
-use Rattle.state_model.specs.declared.geometry.Geometry.{Geometry}
-use Rattle.state_model.specs.declared.stream.Stream.TheVariants.{Held}
-use Rattle.state_model.specs.Streams.{stream_of}
-use Rattle.volume_model.specs.Volumes.{Volume}
-use Rattle.volume_model.specs.Nodes.{data_flags}
-use Rattle.plan_owners.specs.States.{Stands}
-use Rattle.plan_model.specs.Attributes.{RewritesValues}
+use Rattle.plan_edits.specs.record_model.declared.attribute.Attr.{Attr}
+use Rattle.plan_edits.specs.record_model.Constants.{data_type}
+use Rattle.plan_edits.specs.record_model.Records.{Record}
+use Rattle.plan_edits.specs.state_model.declared.geometry.Geometry.{Geometry}
+use Rattle.plan_edits.specs.state_model.declared.stream.Stream.TheVariants.{Held}
+use Rattle.plan_edits.specs.state_model.Streams.{stream_of}
+use Rattle.plan_edits.specs.volume_model.Volumes.{Volume}
+use Rattle.plan_edits.specs.volume_model.Nodes.{data_flags}
+use Rattle.plan_edits.specs.plan_owners.States.{Stands}
+use Rattle.plan_edits.specs.plan_model.Attributes.{RewritesValues}
 use Rattle.record_values.specs.Values.{valued_record}
-use Rattle.plan_values.specs.Values.{is_data, IsOwnFile}
+use Rattle.plan_edits.specs.plan_values.Values.{is_data, IsOwnFile}
 
 -- the unnamed data of a file with another value
 abbrev pub with_value : List ℕ → Record → Record

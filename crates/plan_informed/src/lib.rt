@@ -8,3 +8,9 @@
 mod laws;
 
 pub use laws::{valued_rewrites, values_are_edit};
+pub use plan_edits::{
+    DirPlace, DirPlan, DraftFault, FixedValue, NodesPlan, data_extents, file, lay_out, push_copies,
+    push_copy, put_bytes, put_file, put_moved, put_resized, reads_the_table, sized,
+    state_has_bitmap, stream_of, written_file,
+};
+pub use record_values::{FileRec, placed_fits, valued_record};

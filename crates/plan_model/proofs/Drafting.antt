@@ -4,17 +4,17 @@ use mathlib.Core.Path.{fun_ext}
 use Rattle.std.specs.List.{AllByRecursion}
 use Rattle.std.specs.Option.{option_or}
 use Rattle.std.proofs.lemmas.Bool.{cases_lt, both_ways, false_from_ne_true}
-use Rattle.disk_model.specs.declared.block.Block.{Block}
-use Rattle.disk_model.specs.declared.block.BlockKind.{BlockKind}
-use Rattle.disk_model.specs.Sectors.{are_rivals}
-use Rattle.disk_model.specs.Content.{Content, HasSizes}
-use Rattle.bit_set.specs.Bits.{bit}
-use Rattle.state_model.specs.declared.geometry.Geometry.{Geometry}
-use Rattle.volume_model.specs.Volumes.{Volume, cluster_bits}
-use Rattle.volume_model.specs.Owners.{volume_runs, uses}
-use Rattle.stream_laws.specs.Owners.{Owns}
-use Rattle.stream_laws.proofs.Rewriting.{volume_parts}
-use Rattle.tree_laws.proofs.Ascending.{all_by}
+use Rattle.plan_bodies.specs.disk_model.declared.block.Block.{Block}
+use Rattle.plan_bodies.specs.disk_model.declared.block.BlockKind.{BlockKind}
+use Rattle.plan_bodies.specs.disk_model.Sectors.{are_rivals}
+use Rattle.plan_bodies.specs.disk_model.Content.{Content, HasSizes}
+use Rattle.index_change.specs.bit_set.Bits.{bit}
+use Rattle.index_change.specs.state_model.declared.geometry.Geometry.{Geometry}
+use Rattle.index_change.specs.volume_model.Volumes.{Volume, cluster_bits}
+use Rattle.index_change.specs.volume_model.Owners.{volume_runs, uses}
+use Rattle.plan_owners.specs.stream_laws.Owners.{Owns}
+use Rattle.plan_owners.proofs.stream_laws.Rewriting.{volume_parts}
+use Rattle.plan_owners.proofs.tree_laws.Ascending.{all_by}
 use Rattle.plan_owners.specs.States.{Stands}
 use Rattle.plan_owners.specs.Kinds.{cluster_of, OwnsAs}
 use Rattle.plan_owners.proofs.ByKind.{in_grid, owned_as, one_kind, marked_if_used, marked, one_cluster, two_kinds}

@@ -1,17 +1,17 @@
 -- The index of a directory after a plan of it.
 use Rattle.std.proofs.Common.{◌≡◌, ℕ, ◌/◌, Bool, List, Option, Some, Ok, ap, ap₂, ◌∙◌}
-use Rattle.disk_model.specs.Content.{Content}
-use Rattle.record_model.specs.declared.attribute.Attr.{Attr}
-use Rattle.record_model.specs.Records.{Record}
-use Rattle.record_model.specs.Constants.{index_allocation, names_index}
-use Rattle.file_tree.specs.declared.link.Link.{Link}
-use Rattle.index_model.specs.Indexes.{Place}
-use Rattle.index_model.specs.Walks.{walk_of}
-use Rattle.state_model.specs.declared.stream.Stream.{Stream}
-use Rattle.state_model.specs.Streams.{is_attribute_of, stream_of}
-use Rattle.volume_model.specs.Indexes.{stream_blocks, index_stream, index_place, root_value, links_read, links_below, index_links}
-use Rattle.stream_laws.specs.Frames.{SameNodesIn}
-use Rattle.stream_laws.proofs.Framing.{same_walk}
+use Rattle.plan_bodies.specs.disk_model.Content.{Content}
+use Rattle.index_change.specs.record_model.declared.attribute.Attr.{Attr}
+use Rattle.index_change.specs.record_model.Records.{Record}
+use Rattle.index_change.specs.record_model.Constants.{index_allocation, names_index}
+use Rattle.index_change.specs.file_tree.declared.link.Link.{Link}
+use Rattle.index_change.specs.index_model.Indexes.{Place}
+use Rattle.index_change.specs.index_model.Walks.{walk_of}
+use Rattle.index_change.specs.state_model.declared.stream.Stream.{Stream}
+use Rattle.index_change.specs.state_model.Streams.{is_attribute_of, stream_of}
+use Rattle.index_change.specs.volume_model.Indexes.{stream_blocks, index_stream, index_place, root_value, links_read, links_below, index_links}
+use Rattle.plan_owners.specs.stream_laws.Frames.{SameNodesIn}
+use Rattle.plan_owners.proofs.stream_laws.Framing.{same_walk}
 use Rattle.plan_model.specs.Attributes.{RewritesValues, SparesAll}
 use Rattle.plan_model.proofs.Rewriting.{same_stream}
 

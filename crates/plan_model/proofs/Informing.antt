@@ -3,64 +3,64 @@ use Rattle.std.proofs.Common.{◌≡◌, ◌≢◌, ℕ, ◌*◌, ◌/◌, ◌<�
 use Rattle.std.specs.Prelude.{count_by}
 use Rattle.std.specs.Option.{option_map}
 use Rattle.std.proofs.lemmas.Bool.{cases_Bool, cases_eq, and_parts, both_ways, or_left, eqb-true, eqb-false, ne_eqb, eq-eqb}
-use Rattle.disk_model.specs.declared.block.Block.{Block}
-use Rattle.disk_model.specs.declared.block.BlockKind.{BlockKind}
-use Rattle.disk_model.specs.declared.block.BlockKind.TheVariants.{FileRec}
-use Rattle.disk_model.specs.Sectors.{sectors}
-use Rattle.disk_model.specs.Content.{Content, HasSizes}
-use Rattle.disk_model.specs.Writes.{Write}
-use Rattle.record_model.specs.Records.{Record}
-use Rattle.record_model.specs.Constants.{standard_information, data_type, index_root, names_index}
-use Rattle.file_tree.specs.declared.link.Link.{Link}
-use Rattle.bit_set.specs.Bits.{bit}
-use Rattle.state_model.specs.declared.geometry.Geometry.{Geometry}
-use Rattle.state_model.specs.declared.stream.Stream.{Stream}
-use Rattle.state_model.specs.Files.{file_at, reference, file_links, links_at, record_links, is_directory_record, info_of}
-use Rattle.state_model.specs.Indexes.{is_names_root}
-use Rattle.state_model.specs.Loads.{Slot, Free, Used, slot_of, slot_at, is_used, whole_record, table_slot, table_in}
-use Rattle.state_model.specs.Rules.{first_failing, implies, at_file, is_directory_with, keeps_names, keeps_1, keeps_2, keeps_8}
-use Rattle.state_model.specs.Trees.{is_system}
-use Rattle.volume_model.specs.Volumes.{Volume, count_of, file_in, files_by_number, bytes_or, block_bytes, record_bytes, record_block, is_in_use, file_stream, cluster_bitmap, record_bits, cluster_bits, table_file, bitmap_file, upcase_file, upper_of}
-use Rattle.volume_model.specs.Indexes.{index_place, index_links, index_stream, stream_blocks, links_below, lists_names, keeps_index}
-use Rattle.volume_model.specs.Nodes.{first_flags, kind_in, data_shown, some_node, node_at, free_clusters}
-use Rattle.volume_model.specs.Owners.{file_runs, volume_runs, uses, keeps_cluster_bit, keeps_record_bit}
-use Rattle.volume_model.specs.Sizes.{keeps_streams, keeps_sizes}
-use Rattle.volume_state.specs.Journals.{entries_name, limits_name, entries_flags, file_or_none, journal_file, journal_of_streams, journal_of_file, journal_of, fault_of, some_journal}
-use Rattle.volume_state.specs.Rules.{broken_1, broken_3, broken_6, broken_7, broken_9}
-use Rattle.volume_state.specs.Trees.{tree_with, tree_of, volume_journal}
-use Rattle.index_model.specs.Indexes.{Place}
-use Rattle.stream_laws.specs.Replacing.{FileEdit, OneFileDiffers, with_edits}
-use Rattle.stream_laws.specs.Rewrites.{StandsAlone, is_edited}
-use Rattle.stream_laws.specs.Owners.{initialised_in}
-use Rattle.stream_laws.specs.Sharing.{StreamKey, runs_in}
-use Rattle.stream_laws.proofs.Replacing.{clusters_replaced}
+use Rattle.plan_bodies.specs.disk_model.declared.block.Block.{Block}
+use Rattle.plan_bodies.specs.disk_model.declared.block.BlockKind.{BlockKind}
+use Rattle.plan_bodies.specs.disk_model.declared.block.BlockKind.TheVariants.{FileRec}
+use Rattle.plan_bodies.specs.disk_model.Sectors.{sectors}
+use Rattle.plan_bodies.specs.disk_model.Content.{Content, HasSizes}
+use Rattle.plan_bodies.specs.disk_model.Writes.{Write}
+use Rattle.index_change.specs.record_model.Records.{Record}
+use Rattle.index_change.specs.record_model.Constants.{standard_information, data_type, index_root, names_index}
+use Rattle.index_change.specs.file_tree.declared.link.Link.{Link}
+use Rattle.index_change.specs.bit_set.Bits.{bit}
+use Rattle.index_change.specs.state_model.declared.geometry.Geometry.{Geometry}
+use Rattle.index_change.specs.state_model.declared.stream.Stream.{Stream}
+use Rattle.index_change.specs.state_model.Files.{file_at, reference, file_links, links_at, record_links, is_directory_record, info_of}
+use Rattle.index_change.specs.state_model.Indexes.{is_names_root}
+use Rattle.index_change.specs.state_model.Loads.{Slot, Free, Used, slot_of, slot_at, is_used, whole_record, table_slot, table_in}
+use Rattle.index_change.specs.state_model.Rules.{first_failing, implies, at_file, is_directory_with, keeps_names, keeps_1, keeps_2, keeps_8}
+use Rattle.index_change.specs.state_model.Trees.{is_system}
+use Rattle.index_change.specs.volume_model.Volumes.{Volume, count_of, file_in, files_by_number, bytes_or, block_bytes, record_bytes, record_block, is_in_use, file_stream, cluster_bitmap, record_bits, cluster_bits, table_file, bitmap_file, upcase_file, upper_of}
+use Rattle.index_change.specs.volume_model.Indexes.{index_place, index_links, index_stream, stream_blocks, links_below, lists_names, keeps_index}
+use Rattle.index_change.specs.volume_model.Nodes.{first_flags, kind_in, data_shown, some_node, node_at, free_clusters}
+use Rattle.index_change.specs.volume_model.Owners.{file_runs, volume_runs, uses, keeps_cluster_bit, keeps_record_bit}
+use Rattle.index_change.specs.volume_model.Sizes.{keeps_streams, keeps_sizes}
+use Rattle.plan_owners.specs.volume_state.Journals.{entries_name, limits_name, entries_flags, file_or_none, journal_file, journal_of_streams, journal_of_file, journal_of, fault_of, some_journal}
+use Rattle.plan_owners.specs.volume_state.Rules.{broken_1, broken_3, broken_6, broken_7, broken_9}
+use Rattle.plan_owners.specs.volume_state.Trees.{tree_with, tree_of, volume_journal}
+use Rattle.index_change.specs.index_model.Indexes.{Place}
+use Rattle.plan_owners.specs.stream_laws.Replacing.{FileEdit, OneFileDiffers, with_edits}
+use Rattle.plan_owners.specs.stream_laws.Rewrites.{StandsAlone, is_edited}
+use Rattle.plan_owners.specs.stream_laws.Owners.{initialised_in}
+use Rattle.plan_owners.specs.stream_laws.Sharing.{StreamKey, runs_in}
+use Rattle.plan_owners.proofs.stream_laws.Replacing.{clusters_replaced}
 use Rattle.plan_model.specs.Drafts.{KeepsExtents, GoesOn}
 use Rattle.plan_model.proofs.Quiet.{owns_as_before, live_before, record_owned}
-use Rattle.stream_laws.specs.Tables.{table_key}
-use Rattle.record_model.specs.declared.runs.Run.{Run}
-use Rattle.state_model.specs.Files.{is_base_record}
-use Rattle.state_model.specs.Streams.{stream_of, block_at}
-use Rattle.stream_laws.proofs.Editing.{length-with_edits, other_file, edited_files}
-use Rattle.stream_laws.proofs.Framing.{same_links, same_file}
-use Rattle.stream_laws.proofs.Placing.{lies}
-use Rattle.stream_laws.proofs.Loading.{same_cluster_bits, same_record_bits}
-use Rattle.stream_laws.proofs.Tabling.{inside_list, read_in_use}
-use Rattle.tree_laws.specs.Changed.{TouchesFiles, KeepsTouched}
-use Rattle.tree_laws.specs.Contents.{AgreeBut}
-use Rattle.tree_laws.specs.Keeping.{KeepsNames, KeepsDirectory}
-use Rattle.tree_laws.specs.Leaves.{names_there}
-use Rattle.tree_laws.specs.Parts.{journal_number}
-use Rattle.tree_laws.specs.Planned.{WritesWithin, SparesOthers}
-use Rattle.tree_laws.proofs.Agreeing.{same_upper, kept_sizes, same_journal, same_spares}
-use Rattle.tree_laws.proofs.Changing.{all_keep}
-use Rattle.tree_laws.proofs.Climbing.{system_everywhere}
-use Rattle.tree_laws.proofs.Keeping.{rules_of, passes_below}
-use Rattle.tree_laws.proofs.Naming.{this_or_other, names_everywhere, file_elsewhere, links_kept}
-use Rattle.tree_laws.proofs.Owning.{same_5, same_6}
-use Rattle.tree_laws.proofs.Parting.{record_bits_stay, cluster_bits_stay, spare_stay, room_stays, upper_stays, number_stays}
-use Rattle.tree_laws.proofs.Planning.{planned_agree, planned_bytes, same_index_at, same_shown_at}
-use Rattle.stream_laws.proofs.Changing.{bytes_agree}
-use Rattle.tree_laws.proofs.Ruling.{same_listed, same_name_in, same_count, keeps_both, rule_7}
+use Rattle.plan_owners.specs.stream_laws.Tables.{table_key}
+use Rattle.index_change.specs.record_model.declared.runs.Run.{Run}
+use Rattle.index_change.specs.state_model.Files.{is_base_record}
+use Rattle.index_change.specs.state_model.Streams.{stream_of, block_at}
+use Rattle.plan_owners.proofs.stream_laws.Editing.{length-with_edits, other_file, edited_files}
+use Rattle.plan_owners.proofs.stream_laws.Framing.{same_links, same_file}
+use Rattle.plan_owners.proofs.stream_laws.Placing.{lies}
+use Rattle.plan_owners.proofs.stream_laws.Loading.{same_cluster_bits, same_record_bits}
+use Rattle.plan_owners.proofs.stream_laws.Tabling.{inside_list, read_in_use}
+use Rattle.plan_owners.specs.tree_laws.Changed.{TouchesFiles, KeepsTouched}
+use Rattle.plan_owners.specs.tree_laws.Contents.{AgreeBut}
+use Rattle.plan_owners.specs.tree_laws.Keeping.{KeepsNames, KeepsDirectory}
+use Rattle.plan_owners.specs.tree_laws.Leaves.{names_there}
+use Rattle.plan_owners.specs.tree_laws.Parts.{journal_number}
+use Rattle.plan_owners.specs.tree_laws.Planned.{WritesWithin, SparesOthers}
+use Rattle.plan_owners.proofs.tree_laws.Agreeing.{same_upper, kept_sizes, same_journal, same_spares}
+use Rattle.plan_owners.proofs.tree_laws.Changing.{all_keep}
+use Rattle.plan_owners.proofs.tree_laws.Climbing.{system_everywhere}
+use Rattle.plan_owners.proofs.tree_laws.Keeping.{rules_of, passes_below}
+use Rattle.plan_owners.proofs.tree_laws.Naming.{this_or_other, names_everywhere, file_elsewhere, links_kept}
+use Rattle.plan_owners.proofs.tree_laws.Owning.{same_5, same_6}
+use Rattle.plan_owners.proofs.tree_laws.Parting.{record_bits_stay, cluster_bits_stay, spare_stay, room_stays, upper_stays, number_stays}
+use Rattle.plan_owners.proofs.tree_laws.Planning.{planned_agree, planned_bytes, same_index_at, same_shown_at}
+use Rattle.plan_owners.proofs.stream_laws.Changing.{bytes_agree}
+use Rattle.plan_owners.proofs.tree_laws.Ruling.{same_listed, same_name_in, same_count, keeps_both, rule_7}
 use Rattle.plan_owners.specs.States.{Stands}
 use Rattle.plan_owners.proofs.Standing.{some_file, as_file, rule_4_at}
 use Rattle.plan_model.specs.Attributes.{RewritesValues, SparesAll}

@@ -1,77 +1,77 @@
 -- A file is made in a directory.
-use Rattle.stream_laws.specs.Leaving.{LiesFree}
-use Rattle.stream_laws.specs.Owners.{stream_kind, initialised_in, Owns, IsLive}
-use Rattle.stream_laws.specs.Sharing.{stream_at, runs_in}
-use Rattle.stream_laws.proofs.Changing.{has_sectors}
-use Rattle.stream_laws.proofs.Placing.{lies, lies_in_cluster, is_used}
-use Rattle.stream_laws.proofs.Replacing.{clusters_replaced}
-use Rattle.stream_laws.proofs.Sharing.{file_uses, stream_of_file}
+use Rattle.plan_owners.specs.stream_laws.Leaving.{LiesFree}
+use Rattle.plan_owners.specs.stream_laws.Owners.{stream_kind, initialised_in, Owns, IsLive}
+use Rattle.plan_owners.specs.stream_laws.Sharing.{stream_at, runs_in}
+use Rattle.plan_owners.proofs.stream_laws.Changing.{has_sectors}
+use Rattle.plan_owners.proofs.stream_laws.Placing.{lies, lies_in_cluster, is_used}
+use Rattle.plan_owners.proofs.stream_laws.Replacing.{clusters_replaced}
+use Rattle.plan_owners.proofs.stream_laws.Sharing.{file_uses, stream_of_file}
 use Rattle.plan_model.specs.Drafts.{GoesOn}
 use Rattle.plan_model.proofs.Quiet.{record_owned}
-use Rattle.disk_model.specs.declared.block.Block.{Block}
-use Rattle.disk_model.specs.declared.block.BlockKind.{BlockKind}
-use Rattle.state_model.specs.Streams.{block_at}
+use Rattle.plan_bodies.specs.disk_model.declared.block.Block.{Block}
+use Rattle.plan_bodies.specs.disk_model.declared.block.BlockKind.{BlockKind}
+use Rattle.index_change.specs.state_model.Streams.{block_at}
 use Rattle.std.proofs.Common.{◌≡◌, ◌≢◌, ◌⊎◌, ℕ, ◌*◌, ◌<◌, ◌≤◌, Bool, true, false, not, ◌&&◌, ◌||◌, cond, eqb, nat_eq, List, [], ◌∷◌, ◌++◌, length, Option, Some, None, refl, sym, ap, ap₂, subst, ◌∙◌, inl, inr, arith, ◌/◌}
 use Rattle.std.specs.Prelude.{count_by}
 use Rattle.std.specs.List.{list_all, list_any, AllByRecursion}
 use Rattle.std.specs.Option.{option_map}
 use Rattle.std.specs.Cmp.Lexicographic.{pointwise}
 use Rattle.std.proofs.lemmas.Bool.{cases_Bool, cases_eq, and_parts, and_from, or_from, or_left, or_right, both_ways, eqb-true, ne_eqb, eq-eqb, le-ltb}
-use Rattle.host_base.specs.declared.file_ref.FileRef.{FileRef}
-use Rattle.host_base.specs.FileRefs.{same_reference}
-use Rattle.disk_model.specs.Sectors.{sectors}
-use Rattle.disk_model.specs.Content.{Content, HasSizes}
-use Rattle.disk_model.specs.Writes.{Write}
-use Rattle.record_model.specs.declared.runs.Run.{Run}
-use Rattle.record_model.specs.Records.{Record}
-use Rattle.record_model.specs.Constants.{standard_information, attribute_list, data_type, index_root, index_allocation, bitmap_type, names_index}
-use Rattle.file_tree.specs.declared.link.Link.{Link}
-use Rattle.file_tree.specs.declared.node.Kind.{Kind}
-use Rattle.file_tree.specs.declared.node.Kind.TheVariants.{Directory}
-use Rattle.bit_set.specs.Bits.{bit}
-use Rattle.state_model.specs.declared.geometry.Geometry.{Geometry}
-use Rattle.state_model.specs.declared.stream.Stream.{Stream}
-use Rattle.state_model.specs.Files.{file_at, reference, file_links, links_at, record_links, is_directory_record, info_of}
-use Rattle.state_model.specs.Loads.{Slot, Used, table_slot, table_in, has_cut_index_block}
-use Rattle.state_model.specs.Rules.{first_failing, implies, at_file, same_link, keeps_names, keeps_1, is_directory_with, is_directory_at, keeps_2, is_name_in, is_index, keeps_8}
-use Rattle.state_model.specs.Streams.{stream_of}
-use Rattle.file_tree.specs.Walks.{first_user_record}
-use Rattle.state_model.specs.Trees.{all_links, leads, is_system, is_in_system}
-use Rattle.volume_model.specs.Volumes.{Volume, count_of, file_in, files_by_number, file_stream, bytes_or, is_in_use, record_bits, cluster_bits, table_file, mirror_file, bitmap_file, upcase_file, upper_of}
-use Rattle.volume_model.specs.Indexes.{void_block, index_links, keeps_index}
-use Rattle.volume_model.specs.Nodes.{first_flags, kind_in, data_shown, node_by, some_node, node_at, spare_at, free_clusters}
-use Rattle.volume_model.specs.Owners.{file_runs, volume_runs, uses, keeps_cluster_bit, keeps_record_bit}
-use Rattle.volume_model.specs.Sizes.{keeps_stream, keeps_whole, keeps_untorn, keeps_streams, keeps_sizes}
-use Rattle.volume_state.specs.Journals.{entries_name, limits_name, extend_file, entries_flags, file_or_none, journal_file, journal_of_streams, journal_of_file, journal_of, fault_of, some_journal}
-use Rattle.volume_state.specs.Rules.{broken_1, broken_3, broken_5, broken_6, broken_9}
-use Rattle.volume_state.specs.Trees.{tree_with, tree_of, volume_journal}
-use Rattle.stream_laws.specs.Replacing.{FileEdit, OneFileDiffers, with_edits, AreEdits}
-use Rattle.stream_laws.specs.Rewrites.{StandsAlone, is_edited, with_files}
-use Rattle.stream_laws.specs.Sharing.{StreamKey}
-use Rattle.stream_laws.proofs.Changing.{bytes_agree}
-use Rattle.stream_laws.proofs.Editing.{length-with_edits, other_file, edited_files}
-use Rattle.stream_laws.proofs.Loading.{same_cluster_bits}
-use Rattle.stream_laws.proofs.Tabling.{inside_list, no_list_stream}
-use Rattle.tree_laws.specs.Changed.{KeepsPlaces, TouchesFiles, KeepsTouched}
-use Rattle.tree_laws.specs.Contents.{SameEntries}
-use Rattle.stream_laws.specs.Frames.{SameBytesInSome}
-use Rattle.tree_laws.specs.Keeping.{PartReplaced, KeepsNames, KeepsDirectory, is_directory_file}
-use Rattle.tree_laws.specs.Leaves.{names_there}
-use Rattle.tree_laws.specs.Parts.{journal_number}
-use Rattle.tree_laws.specs.Planned.{IsInStream, IsInRecord, WritesWithin}
-use Rattle.tree_laws.specs.Ways.{IsOutside}
-use Rattle.tree_laws.proofs.Agreeing.{no_more_torn, same_upper, kept_sizes, same_journal}
-use Rattle.tree_laws.proofs.Ascending.{of_system_kept, own_children, all_by, in_system_kept}
-use Rattle.tree_laws.proofs.Changing.{all_but, places_ways}
-use Rattle.tree_laws.proofs.Holding.{no_index}
-use Rattle.tree_laws.proofs.Keeping.{rules_of, passes_below}
-use Rattle.tree_laws.proofs.Listing.{there_elsewhere, index_listed, index_kept_by, index_more}
-use Rattle.tree_laws.proofs.Naming.{this_or_other, names_everywhere, file_elsewhere, links_of_all, links_kept}
-use Rattle.tree_laws.proofs.Owning.{same_5, same_6}
-use Rattle.tree_laws.proofs.Parting.{record_bits_stay, cluster_bits_stay, room_stays, upper_stays, number_stays}
-use Rattle.tree_laws.proofs.Planning.{planned_bytes, journal_agrees}
-use Rattle.tree_laws.proofs.Ruling.{same_index, same_name_in, same_count, keeps_both}
-use Rattle.tree_laws.proofs.Standing.{no_directory_leaf, leaf_journal}
+use Rattle.index_change.specs.host_base.declared.file_ref.FileRef.{FileRef}
+use Rattle.index_change.specs.host_base.FileRefs.{same_reference}
+use Rattle.plan_bodies.specs.disk_model.Sectors.{sectors}
+use Rattle.plan_bodies.specs.disk_model.Content.{Content, HasSizes}
+use Rattle.plan_bodies.specs.disk_model.Writes.{Write}
+use Rattle.index_change.specs.record_model.declared.runs.Run.{Run}
+use Rattle.index_change.specs.record_model.Records.{Record}
+use Rattle.index_change.specs.record_model.Constants.{standard_information, attribute_list, data_type, index_root, index_allocation, bitmap_type, names_index}
+use Rattle.index_change.specs.file_tree.declared.link.Link.{Link}
+use Rattle.index_change.specs.file_tree.declared.node.Kind.{Kind}
+use Rattle.index_change.specs.file_tree.declared.node.Kind.TheVariants.{Directory}
+use Rattle.index_change.specs.bit_set.Bits.{bit}
+use Rattle.index_change.specs.state_model.declared.geometry.Geometry.{Geometry}
+use Rattle.index_change.specs.state_model.declared.stream.Stream.{Stream}
+use Rattle.index_change.specs.state_model.Files.{file_at, reference, file_links, links_at, record_links, is_directory_record, info_of}
+use Rattle.index_change.specs.state_model.Loads.{Slot, Used, table_slot, table_in, has_cut_index_block}
+use Rattle.index_change.specs.state_model.Rules.{first_failing, implies, at_file, same_link, keeps_names, keeps_1, is_directory_with, is_directory_at, keeps_2, is_name_in, is_index, keeps_8}
+use Rattle.index_change.specs.state_model.Streams.{stream_of}
+use Rattle.index_change.specs.file_tree.Walks.{first_user_record}
+use Rattle.index_change.specs.state_model.Trees.{all_links, leads, is_system, is_in_system}
+use Rattle.index_change.specs.volume_model.Volumes.{Volume, count_of, file_in, files_by_number, file_stream, bytes_or, is_in_use, record_bits, cluster_bits, table_file, mirror_file, bitmap_file, upcase_file, upper_of}
+use Rattle.index_change.specs.volume_model.Indexes.{void_block, index_links, keeps_index}
+use Rattle.index_change.specs.volume_model.Nodes.{first_flags, kind_in, data_shown, node_by, some_node, node_at, spare_at, free_clusters}
+use Rattle.index_change.specs.volume_model.Owners.{file_runs, volume_runs, uses, keeps_cluster_bit, keeps_record_bit}
+use Rattle.index_change.specs.volume_model.Sizes.{keeps_stream, keeps_whole, keeps_untorn, keeps_streams, keeps_sizes}
+use Rattle.plan_owners.specs.volume_state.Journals.{entries_name, limits_name, extend_file, entries_flags, file_or_none, journal_file, journal_of_streams, journal_of_file, journal_of, fault_of, some_journal}
+use Rattle.plan_owners.specs.volume_state.Rules.{broken_1, broken_3, broken_5, broken_6, broken_9}
+use Rattle.plan_owners.specs.volume_state.Trees.{tree_with, tree_of, volume_journal}
+use Rattle.plan_owners.specs.stream_laws.Replacing.{FileEdit, OneFileDiffers, with_edits, AreEdits}
+use Rattle.plan_owners.specs.stream_laws.Rewrites.{StandsAlone, is_edited, with_files}
+use Rattle.plan_owners.specs.stream_laws.Sharing.{StreamKey}
+use Rattle.plan_owners.proofs.stream_laws.Changing.{bytes_agree}
+use Rattle.plan_owners.proofs.stream_laws.Editing.{length-with_edits, other_file, edited_files}
+use Rattle.plan_owners.proofs.stream_laws.Loading.{same_cluster_bits}
+use Rattle.plan_owners.proofs.stream_laws.Tabling.{inside_list, no_list_stream}
+use Rattle.plan_owners.specs.tree_laws.Changed.{KeepsPlaces, TouchesFiles, KeepsTouched}
+use Rattle.plan_owners.specs.tree_laws.Contents.{SameEntries}
+use Rattle.plan_owners.specs.stream_laws.Frames.{SameBytesInSome}
+use Rattle.plan_owners.specs.tree_laws.Keeping.{PartReplaced, KeepsNames, KeepsDirectory, is_directory_file}
+use Rattle.plan_owners.specs.tree_laws.Leaves.{names_there}
+use Rattle.plan_owners.specs.tree_laws.Parts.{journal_number}
+use Rattle.plan_owners.specs.tree_laws.Planned.{IsInStream, IsInRecord, WritesWithin}
+use Rattle.plan_owners.specs.tree_laws.Ways.{IsOutside}
+use Rattle.plan_owners.proofs.tree_laws.Agreeing.{no_more_torn, same_upper, kept_sizes, same_journal}
+use Rattle.plan_owners.proofs.tree_laws.Ascending.{of_system_kept, own_children, all_by, in_system_kept}
+use Rattle.plan_owners.proofs.tree_laws.Changing.{all_but, places_ways}
+use Rattle.plan_owners.proofs.tree_laws.Holding.{no_index}
+use Rattle.plan_owners.proofs.tree_laws.Keeping.{rules_of, passes_below}
+use Rattle.plan_owners.proofs.tree_laws.Listing.{there_elsewhere, index_listed, index_kept_by, index_more}
+use Rattle.plan_owners.proofs.tree_laws.Naming.{this_or_other, names_everywhere, file_elsewhere, links_of_all, links_kept}
+use Rattle.plan_owners.proofs.tree_laws.Owning.{same_5, same_6}
+use Rattle.plan_owners.proofs.tree_laws.Parting.{record_bits_stay, cluster_bits_stay, room_stays, upper_stays, number_stays}
+use Rattle.plan_owners.proofs.tree_laws.Planning.{planned_bytes, journal_agrees}
+use Rattle.plan_owners.proofs.tree_laws.Ruling.{same_index, same_name_in, same_count, keeps_both}
+use Rattle.plan_owners.proofs.tree_laws.Standing.{no_directory_leaf, leaf_journal}
 use Rattle.plan_owners.specs.Kinds.{OwnsAs}
 use Rattle.plan_owners.specs.States.{Stands}
 use Rattle.plan_owners.proofs.Agreed.{table_begins}

@@ -3,37 +3,37 @@ use Rattle.std.proofs.Common.{◌≡◌, ◌≢◌, ◌⊎◌, ℕ, ◌*◌, ◌
 use Rattle.std.specs.List.{list_all, list_any}
 use Rattle.std.specs.Option.{option_or, option_map}
 use Rattle.std.proofs.lemmas.Bool.{cases_lt, and_from, and_right, or_parts, eqb-true, ne_eqb, le-leb, false_from_ne_true}
-use Rattle.disk_model.specs.declared.block.Block.{Block}
-use Rattle.disk_model.specs.declared.block.BlockKind.TheVariants.{FileRec, Index}
-use Rattle.disk_model.specs.Sectors.{same_block, same_kind}
-use Rattle.disk_model.specs.Content.{Content, HasSizes}
-use Rattle.record_model.specs.declared.attribute.Attr.{Attr}
-use Rattle.record_model.specs.declared.values.StdInfo.{StdInfo}
-use Rattle.record_model.specs.Records.{Record}
-use Rattle.record_model.specs.Constants.{standard_information, attribute_list, file_name, object_id, data_type, index_root, index_allocation, bitmap_type, reparse_point, names_index}
-use Rattle.file_tree.specs.declared.link.Link.{Link}
-use Rattle.file_tree.specs.declared.node.Kind.{Kind}
-use Rattle.file_tree.specs.declared.node.Kind.TheVariants.{Directory, File, Fixed, Opaque, System}
-use Rattle.file_tree.specs.declared.node.Why.{Why}
-use Rattle.file_tree.specs.declared.node.Node.{Node}
-use Rattle.state_model.specs.declared.geometry.Geometry.{Geometry}
-use Rattle.state_model.specs.declared.stream.Stream.{Stream}
-use Rattle.state_model.specs.Files.{only_base, is_base_record, record_links, is_directory_record, has_type, info_of, is_encrypted, is_compressed, is_sparse, why_by}
-use Rattle.state_model.specs.Loads.{Slot, Free, Used, record_count, table_slot, slot_at, slot_of, used_record, list_stream, all_attrs, cuts_index, has_cut_index_block, breaks_9, joined_file, or_rule, broken_rule, rule_at, breaks_10, data_stream}
-use Rattle.state_model.specs.Rules.{implies, at_file, keeps_names}
-use Rattle.state_model.specs.Streams.{is_attribute_of, attributes_of, stream_of, block_at, has_cut_block}
-use Rattle.file_tree.specs.Walks.{first_user_record}
-use Rattle.state_model.specs.Trees.{is_system, is_nameless}
-use Rattle.volume_model.specs.Volumes.{Volume, count_of, file_in, files_by_number, table_file, mirror_file, bitmap_file, size_or, record_bitmap, cluster_bitmap}
-use Rattle.volume_model.specs.Indexes.{void_block}
-use Rattle.volume_model.specs.Nodes.{valid_or, clusters_or, data_flags, first_flags, has_sparse_run, sparse_if, why_not, is_unread, is_unchanged, kind_in, shows_data, data_shown, node_with, node_by, some_node}
-use Rattle.volume_model.specs.Sizes.{keeps_stream, is_whole_file, has_hole, keeps_whole, stream_has_torn, keeps_untorn, is_initialised, keeps_bitmaps, keeps_streams, keeps_sizes}
-use Rattle.stream_laws.specs.Rewrites.{StandsAlone, new_file}
-use Rattle.stream_laws.proofs.Placing.{lies}
-use Rattle.stream_laws.proofs.Recording.{record_read}
-use Rattle.stream_laws.proofs.Rewriting.{attrs_alone, parts_of_files}
-use Rattle.stream_laws.proofs.Sharing.{attribute_kind}
-use Rattle.stream_laws.proofs.Tabling.{no_list_stream}
+use Rattle.plan_bodies.specs.disk_model.declared.block.Block.{Block}
+use Rattle.plan_bodies.specs.disk_model.declared.block.BlockKind.TheVariants.{FileRec, Index}
+use Rattle.plan_bodies.specs.disk_model.Sectors.{same_block, same_kind}
+use Rattle.plan_bodies.specs.disk_model.Content.{Content, HasSizes}
+use Rattle.index_change.specs.record_model.declared.attribute.Attr.{Attr}
+use Rattle.index_change.specs.record_model.declared.values.StdInfo.{StdInfo}
+use Rattle.index_change.specs.record_model.Records.{Record}
+use Rattle.index_change.specs.record_model.Constants.{standard_information, attribute_list, file_name, object_id, data_type, index_root, index_allocation, bitmap_type, reparse_point, names_index}
+use Rattle.index_change.specs.file_tree.declared.link.Link.{Link}
+use Rattle.index_change.specs.file_tree.declared.node.Kind.{Kind}
+use Rattle.index_change.specs.file_tree.declared.node.Kind.TheVariants.{Directory, File, Fixed, Opaque, System}
+use Rattle.index_change.specs.file_tree.declared.node.Why.{Why}
+use Rattle.index_change.specs.file_tree.declared.node.Node.{Node}
+use Rattle.index_change.specs.state_model.declared.geometry.Geometry.{Geometry}
+use Rattle.index_change.specs.state_model.declared.stream.Stream.{Stream}
+use Rattle.index_change.specs.state_model.Files.{only_base, is_base_record, record_links, is_directory_record, has_type, info_of, is_encrypted, is_compressed, is_sparse, why_by}
+use Rattle.index_change.specs.state_model.Loads.{Slot, Free, Used, record_count, table_slot, slot_at, slot_of, used_record, list_stream, all_attrs, cuts_index, has_cut_index_block, breaks_9, joined_file, or_rule, broken_rule, rule_at, breaks_10, data_stream}
+use Rattle.index_change.specs.state_model.Rules.{implies, at_file, keeps_names}
+use Rattle.index_change.specs.state_model.Streams.{is_attribute_of, attributes_of, stream_of, block_at, has_cut_block}
+use Rattle.index_change.specs.file_tree.Walks.{first_user_record}
+use Rattle.index_change.specs.state_model.Trees.{is_system, is_nameless}
+use Rattle.index_change.specs.volume_model.Volumes.{Volume, count_of, file_in, files_by_number, table_file, mirror_file, bitmap_file, size_or, record_bitmap, cluster_bitmap}
+use Rattle.index_change.specs.volume_model.Indexes.{void_block}
+use Rattle.index_change.specs.volume_model.Nodes.{valid_or, clusters_or, data_flags, first_flags, has_sparse_run, sparse_if, why_not, is_unread, is_unchanged, kind_in, shows_data, data_shown, node_with, node_by, some_node}
+use Rattle.index_change.specs.volume_model.Sizes.{keeps_stream, is_whole_file, has_hole, keeps_whole, stream_has_torn, keeps_untorn, is_initialised, keeps_bitmaps, keeps_streams, keeps_sizes}
+use Rattle.plan_owners.specs.stream_laws.Rewrites.{StandsAlone, new_file}
+use Rattle.plan_owners.proofs.stream_laws.Placing.{lies}
+use Rattle.plan_owners.proofs.stream_laws.Recording.{record_read}
+use Rattle.plan_owners.proofs.stream_laws.Rewriting.{attrs_alone, parts_of_files}
+use Rattle.plan_owners.proofs.stream_laws.Sharing.{attribute_kind}
+use Rattle.plan_owners.proofs.stream_laws.Tabling.{no_list_stream}
 use Rattle.plan_owners.specs.States.{Stands}
 use Rattle.plan_owners.proofs.Standing.{slots, loaded_files, joined_at, FileParts, file_parts, some_file}
 use Rattle.plan_model.specs.Attributes.{RewritesValues, SparesAll}

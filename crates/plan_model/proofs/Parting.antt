@@ -5,25 +5,25 @@ use Rattle.std.proofs.lemmas.Bool.{and_parts, and_from, or_left}
 use Rattle.std.proofs.lemmas.List.{append-nil}
 use Rattle.std.proofs.lemmas.List.Elements.{filter-append}
 use Rattle.std.proofs.lemmas.List.Concat.{flat_map-append}
-use Rattle.record_model.specs.declared.attribute.OwnForm.{OwnForm}
-use Rattle.record_model.specs.declared.attribute.Attr.{Attr}
-use Rattle.record_model.specs.declared.runs.Run.{Run}
-use Rattle.record_model.specs.Records.{Record}
-use Rattle.record_model.specs.Constants.{file_name, standard_information, data_type, bitmap_type, index_allocation, names_index}
-use Rattle.file_tree.specs.declared.link.Link.{Link}
-use Rattle.state_model.specs.declared.stream.Stream.{Stream}
-use Rattle.state_model.specs.declared.stream.Stream.TheVariants.{Placed}
-use Rattle.state_model.specs.Files.{attr_link, reference, record_links, has_type, attr_info, info_of, is_directory_record}
-use Rattle.state_model.specs.Rules.{keeps_names}
-use Rattle.state_model.specs.Streams.{form_first, is_attribute_of, sorted_into, attributes_of, attribute_runs, form_stream, joined, stream_of}
-use Rattle.volume_model.specs.Owners.{file_runs, uses}
-use Rattle.volume_model.specs.Sizes.{are_joined, fits_volume, keeps_stream, keeps_streams}
-use Rattle.stream_laws.proofs.Placing.{uses-append}
-use Rattle.tree_laws.specs.Keeping.{PartReplaced}
+use Rattle.index_change.specs.record_model.declared.attribute.OwnForm.{OwnForm}
+use Rattle.index_change.specs.record_model.declared.attribute.Attr.{Attr}
+use Rattle.index_change.specs.record_model.declared.runs.Run.{Run}
+use Rattle.index_change.specs.record_model.Records.{Record}
+use Rattle.index_change.specs.record_model.Constants.{file_name, standard_information, data_type, bitmap_type, index_allocation, names_index}
+use Rattle.index_change.specs.file_tree.declared.link.Link.{Link}
+use Rattle.index_change.specs.state_model.declared.stream.Stream.{Stream}
+use Rattle.index_change.specs.state_model.declared.stream.Stream.TheVariants.{Placed}
+use Rattle.index_change.specs.state_model.Files.{attr_link, reference, record_links, has_type, attr_info, info_of, is_directory_record}
+use Rattle.index_change.specs.state_model.Rules.{keeps_names}
+use Rattle.index_change.specs.state_model.Streams.{form_first, is_attribute_of, sorted_into, attributes_of, attribute_runs, form_stream, joined, stream_of}
+use Rattle.index_change.specs.volume_model.Owners.{file_runs, uses}
+use Rattle.index_change.specs.volume_model.Sizes.{are_joined, fits_volume, keeps_stream, keeps_streams}
+use Rattle.plan_owners.proofs.stream_laws.Placing.{uses-append}
+use Rattle.plan_owners.specs.tree_laws.Keeping.{PartReplaced}
 use Rattle.plan_model.specs.Parts.{ReplacesAttrs, NonePass, IsOfAnother, SparesBlocks, JoinsPieces}
 use Rattle.plan_model.proofs.OneRecord.{streams_test, by_test}
-use Rattle.disk_model.specs.Content.{Content}
-use Rattle.volume_model.specs.Volumes.{Volume}
+use Rattle.plan_bodies.specs.disk_model.Content.{Content}
+use Rattle.index_change.specs.volume_model.Volumes.{Volume}
 use Rattle.plan_model.proofs.Rewriting.{names_with}
 
 -- ---- lists

@@ -1,24 +1,24 @@
 -- A node's times changed, as an edit of a plan.
 use Rattle.plan_model.specs.Drafts.{KeepsExtents, GoesOn, gives_runs}
 use Rattle.plan_bodies.specs.Bodies.{NewBody, content_with, AreBodies}
-use Rattle.disk_model.specs.Content.{Content}
+use Rattle.plan_bodies.specs.disk_model.Content.{Content}
 use Rattle.std.specs.List.{AllByRecursion}
 use Rattle.std.proofs.lemmas.Bool.{cases_lt, le-leb, lt-leb}
-use Rattle.volume_model.specs.Owners.{volume_runs, uses}
-use Rattle.volume_model.specs.Volumes.{cluster_bits, Volume}
-use Rattle.bit_set.specs.Bits.{bit}
-use Rattle.tree_laws.proofs.Ascending.{all_by}
+use Rattle.index_change.specs.volume_model.Owners.{volume_runs, uses}
+use Rattle.index_change.specs.volume_model.Volumes.{cluster_bits, Volume}
+use Rattle.index_change.specs.bit_set.Bits.{bit}
+use Rattle.plan_owners.proofs.tree_laws.Ascending.{all_by}
 use Rattle.std.proofs.Common.{refl, ◌≡◌, ℕ, ◌*◌, ◌<◌, List, Some, sym, ap, ap₂, subst, ◌∙◌, ◌⊎◌, inl, inr, cond, leb, Bool, true, false, Option, arith}
-use Rattle.disk_model.specs.declared.block.Block.{Block}
-use Rattle.disk_model.specs.declared.block.BlockKind.{BlockKind}
-use Rattle.disk_model.specs.declared.block.BlockKind.TheVariants.{FileRec}
-use Rattle.disk_model.specs.Sectors.{sectors}
-use Rattle.record_model.specs.declared.runs.Run.{Run}
-use Rattle.state_model.specs.declared.geometry.Geometry.{Geometry}
-use Rattle.state_model.specs.Streams.{block_at}
-use Rattle.stream_laws.specs.Owners.{stream_kind, Owns, IsLive}
-use Rattle.stream_laws.specs.Tables.{table_key}
-use Rattle.stream_laws.proofs.Tabling.{table_runs}
+use Rattle.plan_bodies.specs.disk_model.declared.block.Block.{Block}
+use Rattle.plan_bodies.specs.disk_model.declared.block.BlockKind.{BlockKind}
+use Rattle.plan_bodies.specs.disk_model.declared.block.BlockKind.TheVariants.{FileRec}
+use Rattle.plan_bodies.specs.disk_model.Sectors.{sectors}
+use Rattle.index_change.specs.record_model.declared.runs.Run.{Run}
+use Rattle.index_change.specs.state_model.declared.geometry.Geometry.{Geometry}
+use Rattle.index_change.specs.state_model.Streams.{block_at}
+use Rattle.plan_owners.specs.stream_laws.Owners.{stream_kind, Owns, IsLive}
+use Rattle.plan_owners.specs.stream_laws.Tables.{table_key}
+use Rattle.plan_owners.proofs.stream_laws.Tabling.{table_runs}
 use Rattle.plan_owners.specs.States.{Stands}
 use Rattle.plan_owners.specs.Kinds.{OwnsAs}
 use Rattle.plan_owners.proofs.Standing.{begins}

@@ -3,25 +3,25 @@ use Rattle.std.proofs.Common.{◌≡◌, ◌⊎◌, ℕ, ◌+◌, ◌/◌, ◌%�
 use Rattle.std.specs.List.{filter, flat_map, filter_map, cons_option, list_all, list_any}
 use Rattle.std.specs.Cmp.Lexicographic.{pointwise}
 use Rattle.std.proofs.lemmas.Bool.{cases_Bool, both_ways}
-use Rattle.host_base.specs.declared.file_ref.FileRef.{FileRef}
-use Rattle.record_model.specs.declared.attribute.OwnForm.{OwnForm}
-use Rattle.record_model.specs.declared.attribute.OwnForm.TheVariants.{Resident, Mapped}
-use Rattle.record_model.specs.declared.attribute.Attr.{Attr}
-use Rattle.record_model.specs.declared.runs.Run.{Run}
-use Rattle.record_model.specs.Records.{Record}
-use Rattle.record_model.specs.Constants.{file_name, standard_information, index_root, names_index}
-use Rattle.file_tree.specs.declared.link.Link.{Link}
-use Rattle.state_model.specs.Files.{attr_link, reference, record_links, is_directory_record, has_type, attr_info, info_of}
-use Rattle.state_model.specs.Indexes.{is_names_root}
-use Rattle.state_model.specs.Rules.{keeps_names, implies, long_count, has_partner, is_only_short}
-use Rattle.file_tree.specs.Walks.{first_user_record}
-use Rattle.state_model.specs.Loads.{total_clusters}
-use Rattle.state_model.specs.Streams.{form_first, first_vcn, is_attribute_of, with_attribute, sorted_into, attributes_of, form_runs, attribute_runs, form_stream, joined, stream_of}
-use Rattle.volume_model.specs.Indexes.{attr_value, root_value}
-use Rattle.volume_model.specs.Owners.{file_runs}
-use Rattle.volume_model.specs.Sizes.{follow, are_joined, fits_volume, keeps_stream}
-use Rattle.stream_laws.specs.Owners.{initialised_in}
-use Rattle.stream_laws.specs.Sharing.{runs_in}
+use Rattle.index_change.specs.host_base.declared.file_ref.FileRef.{FileRef}
+use Rattle.index_change.specs.record_model.declared.attribute.OwnForm.{OwnForm}
+use Rattle.index_change.specs.record_model.declared.attribute.OwnForm.TheVariants.{Resident, Mapped}
+use Rattle.index_change.specs.record_model.declared.attribute.Attr.{Attr}
+use Rattle.index_change.specs.record_model.declared.runs.Run.{Run}
+use Rattle.index_change.specs.record_model.Records.{Record}
+use Rattle.index_change.specs.record_model.Constants.{file_name, standard_information, index_root, names_index}
+use Rattle.index_change.specs.file_tree.declared.link.Link.{Link}
+use Rattle.index_change.specs.state_model.Files.{attr_link, reference, record_links, is_directory_record, has_type, attr_info, info_of}
+use Rattle.index_change.specs.state_model.Indexes.{is_names_root}
+use Rattle.index_change.specs.state_model.Rules.{keeps_names, implies, long_count, has_partner, is_only_short}
+use Rattle.index_change.specs.file_tree.Walks.{first_user_record}
+use Rattle.index_change.specs.state_model.Loads.{total_clusters}
+use Rattle.index_change.specs.state_model.Streams.{form_first, first_vcn, is_attribute_of, with_attribute, sorted_into, attributes_of, form_runs, attribute_runs, form_stream, joined, stream_of}
+use Rattle.index_change.specs.volume_model.Indexes.{attr_value, root_value}
+use Rattle.index_change.specs.volume_model.Owners.{file_runs}
+use Rattle.index_change.specs.volume_model.Sizes.{follow, are_joined, fits_volume, keeps_stream}
+use Rattle.plan_owners.specs.stream_laws.Owners.{initialised_in}
+use Rattle.plan_owners.specs.stream_laws.Sharing.{runs_in}
 use Rattle.plan_model.specs.Attributes.{IsValue, IsRewritten, AreRewritten, RewritesValues, SparesAll}
 
 -- ---- one attribute

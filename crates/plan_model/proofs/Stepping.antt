@@ -4,46 +4,46 @@ use Rattle.std.specs.List.{sum_by, filter, flat_map, range_with_len, AllByRecurs
 use Rattle.std.proofs.lemmas.Bool.{cases_Bool, cases_lt, cases_eq, or_from, both_ways, eqb-true, ne_eqb, le-leb}
 use Rattle.std.proofs.lemmas.List.Sums.{sum_by-append}
 use Rattle.std.proofs.lemmas.List.Elements.{filter-append}
-use Rattle.disk_model.specs.declared.block.Block.{Block}
-use Rattle.disk_model.specs.declared.block.BlockKind.TheVariants.{Plain, FileRec}
-use Rattle.disk_model.specs.Content.{Content}
-use Rattle.disk_model.specs.Laws.{IsElsewhere}
-use Rattle.disk_model.specs.Writes.{Write, overlay}
-use Rattle.record_model.specs.declared.attribute.Attr.{Attr}
-use Rattle.record_model.specs.declared.runs.Run.{Run}
-use Rattle.record_model.specs.Records.{Record}
-use Rattle.record_model.specs.Constants.{attribute_list}
-use Rattle.file_tree.specs.Trees.{node_at as node_by_number}
-use Rattle.state_model.specs.declared.geometry.Geometry.{Geometry}
-use Rattle.state_model.specs.declared.stream.Stream.{Stream}
-use Rattle.state_model.specs.declared.stream.Stream.TheVariants.{Held, Placed}
-use Rattle.state_model.specs.Loads.{Slot, Free, Used, boot_block, record_count, table_of, table_slot, slot_at, list_stream, named_attrs, entries_of, all_attrs, whole_file}
-use Rattle.state_model.specs.Streams.{is_attribute_of, attribute_runs, stream_of, block_at}
-use Rattle.volume_model.specs.Volumes.{Volume, volume_of, file_in, file_stream, bytes_or, table_file}
-use Rattle.volume_model.specs.Nodes.{node_at}
-use Rattle.volume_model.specs.Owners.{volume_runs, uses}
-use Rattle.volume_state.specs.Trees.{Holds, tree_with, tree_of}
-use Rattle.stream_laws.specs.Changes.{AreElsewhere, LeavesBytes}
-use Rattle.stream_laws.specs.Leaving.{LiesFree}
-use Rattle.stream_laws.specs.Places.{AreOnce, AreApart}
-use Rattle.stream_laws.specs.Replacing.{FileEdit, with_edits, LeaveNumber}
-use Rattle.stream_laws.specs.Rewrites.{StandsAlone, RewritesRecords, is_edited}
-use Rattle.stream_laws.specs.Sharing.{StreamKey, stream_at, runs_in}
-use Rattle.stream_laws.specs.Tables.{table_key}
-use Rattle.stream_laws.specs.Volumes.{base_record}
-use Rattle.stream_laws.proofs.Changing.{apart_elsewhere, body_elsewhere}
-use Rattle.stream_laws.proofs.Counting.{one_of_all, two_of_all, filter_of_all, filters_of_all}
-use Rattle.stream_laws.proofs.Placing.{lists_apart, apart_from_unused}
-use Rattle.stream_laws.proofs.Rewriting.{volume_parts, volume_written, edits_in_place, rewrites_in_place, count_is}
-use Rattle.stream_laws.proofs.Loading.{same_table}
-use Rattle.stream_laws.proofs.Sharing.{attr_uses, file_uses, uses-flat_map, volume_sum, stream_uses, attribute_kind, stream_of_file, file_weight}
-use Rattle.stream_laws.proofs.Tabling.{table_runs}
-use Rattle.tree_laws.specs.Changed.{TouchesFiles, KeepsTouched}
-use Rattle.tree_laws.specs.Planned.{IsInStream, IsInRecord, WritesWithin}
-use Rattle.tree_laws.proofs.Ascending.{all_by}
-use Rattle.tree_laws.proofs.Changing.{changed_holds, untouched_node, untouched_spare}
-use Rattle.tree_laws.proofs.Numbering.{found_by_number}
-use Rattle.tree_laws.proofs.Planning.{planned_record, planned_agrees, same_shown_at}
+use Rattle.plan_bodies.specs.disk_model.declared.block.Block.{Block}
+use Rattle.plan_bodies.specs.disk_model.declared.block.BlockKind.TheVariants.{Plain, FileRec}
+use Rattle.plan_bodies.specs.disk_model.Content.{Content}
+use Rattle.plan_bodies.specs.disk_model.Laws.{IsElsewhere}
+use Rattle.plan_bodies.specs.disk_model.Writes.{Write, overlay}
+use Rattle.index_change.specs.record_model.declared.attribute.Attr.{Attr}
+use Rattle.index_change.specs.record_model.declared.runs.Run.{Run}
+use Rattle.index_change.specs.record_model.Records.{Record}
+use Rattle.index_change.specs.record_model.Constants.{attribute_list}
+use Rattle.index_change.specs.file_tree.Trees.{node_at as node_by_number}
+use Rattle.index_change.specs.state_model.declared.geometry.Geometry.{Geometry}
+use Rattle.index_change.specs.state_model.declared.stream.Stream.{Stream}
+use Rattle.index_change.specs.state_model.declared.stream.Stream.TheVariants.{Held, Placed}
+use Rattle.index_change.specs.state_model.Loads.{Slot, Free, Used, boot_block, record_count, table_of, table_slot, slot_at, list_stream, named_attrs, entries_of, all_attrs, whole_file}
+use Rattle.index_change.specs.state_model.Streams.{is_attribute_of, attribute_runs, stream_of, block_at}
+use Rattle.index_change.specs.volume_model.Volumes.{Volume, volume_of, file_in, file_stream, bytes_or, table_file}
+use Rattle.index_change.specs.volume_model.Nodes.{node_at}
+use Rattle.index_change.specs.volume_model.Owners.{volume_runs, uses}
+use Rattle.plan_owners.specs.volume_state.Trees.{Holds, tree_with, tree_of}
+use Rattle.plan_owners.specs.stream_laws.Changes.{AreElsewhere, LeavesBytes}
+use Rattle.plan_owners.specs.stream_laws.Leaving.{LiesFree}
+use Rattle.plan_owners.specs.stream_laws.Places.{AreOnce, AreApart}
+use Rattle.plan_owners.specs.stream_laws.Replacing.{FileEdit, with_edits, LeaveNumber}
+use Rattle.plan_owners.specs.stream_laws.Rewrites.{StandsAlone, RewritesRecords, is_edited}
+use Rattle.plan_owners.specs.stream_laws.Sharing.{StreamKey, stream_at, runs_in}
+use Rattle.plan_owners.specs.stream_laws.Tables.{table_key}
+use Rattle.plan_owners.specs.stream_laws.Volumes.{base_record}
+use Rattle.plan_owners.proofs.stream_laws.Changing.{apart_elsewhere, body_elsewhere}
+use Rattle.plan_owners.proofs.stream_laws.Counting.{one_of_all, two_of_all, filter_of_all, filters_of_all}
+use Rattle.plan_owners.proofs.stream_laws.Placing.{lists_apart, apart_from_unused}
+use Rattle.plan_owners.proofs.stream_laws.Rewriting.{volume_parts, volume_written, edits_in_place, rewrites_in_place, count_is}
+use Rattle.plan_owners.proofs.stream_laws.Loading.{same_table}
+use Rattle.plan_owners.proofs.stream_laws.Sharing.{attr_uses, file_uses, uses-flat_map, volume_sum, stream_uses, attribute_kind, stream_of_file, file_weight}
+use Rattle.plan_owners.proofs.stream_laws.Tabling.{table_runs}
+use Rattle.plan_owners.specs.tree_laws.Changed.{TouchesFiles, KeepsTouched}
+use Rattle.plan_owners.specs.tree_laws.Planned.{IsInStream, IsInRecord, WritesWithin}
+use Rattle.plan_owners.proofs.tree_laws.Ascending.{all_by}
+use Rattle.plan_owners.proofs.tree_laws.Changing.{changed_holds, untouched_node, untouched_spare}
+use Rattle.plan_owners.proofs.tree_laws.Numbering.{found_by_number}
+use Rattle.plan_owners.proofs.tree_laws.Planning.{planned_record, planned_agrees, same_shown_at}
 use Rattle.plan_owners.specs.States.{Stands, IsOwnRecord}
 use Rattle.plan_owners.proofs.Standing.{slots, joined_at, listed_file, some_file, file_parts, begins}
 use Rattle.plan_owners.proofs.Outside.{once}

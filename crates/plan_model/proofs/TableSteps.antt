@@ -1,23 +1,23 @@
 -- An edit that may be of $MFT itself, and in which the file table may grow, leads from a state to a state.
 use Rattle.std.proofs.Common.{ℕ, Bool, List, refl}
-use Rattle.disk_model.specs.Content.{Content}
-use Rattle.disk_model.specs.Writes.{Write, overlay}
-use Rattle.state_model.specs.declared.geometry.Geometry.{Geometry}
-use Rattle.state_model.specs.declared.stream.Extents.{Extents}
-use Rattle.state_model.specs.Loads.{table_slot}
-use Rattle.volume_model.specs.Volumes.{Volume, count_of}
-use Rattle.volume_state.specs.Trees.{Holds, tree_of}
-use Rattle.stream_laws.specs.Replacing.{FileEdit, with_edits}
-use Rattle.stream_laws.specs.Rewrites.{StandsAlone, is_edited}
-use Rattle.stream_laws.specs.Sharing.{StreamKey}
-use Rattle.tree_laws.specs.Changed.{TouchesFiles, KeepsTouched}
-use Rattle.tree_laws.specs.Growth.{GrowsTable}
-use Rattle.tree_laws.specs.LookUps.{links_lost, links_gained, TreeLedTo, touched_or_new}
-use Rattle.tree_laws.specs.Planned.{WritesWithin}
-use Rattle.tree_laws.specs.Steps.{stepped, ReplacesFiles}
-use Rattle.tree_laws.proofs.Planning.{planned_agrees, planned_shown}
-use Rattle.tree_laws.proofs.Sparing.{planned_rewrites}
-use Rattle.tree_laws.proofs.Stepping.{step_loaded, step_holds, step_tree}
+use Rattle.plan_bodies.specs.disk_model.Content.{Content}
+use Rattle.plan_bodies.specs.disk_model.Writes.{Write, overlay}
+use Rattle.index_change.specs.state_model.declared.geometry.Geometry.{Geometry}
+use Rattle.index_change.specs.state_model.declared.stream.Extents.{Extents}
+use Rattle.index_change.specs.state_model.Loads.{table_slot}
+use Rattle.index_change.specs.volume_model.Volumes.{Volume, count_of}
+use Rattle.plan_owners.specs.volume_state.Trees.{Holds, tree_of}
+use Rattle.plan_owners.specs.stream_laws.Replacing.{FileEdit, with_edits}
+use Rattle.plan_owners.specs.stream_laws.Rewrites.{StandsAlone, is_edited}
+use Rattle.plan_owners.specs.stream_laws.Sharing.{StreamKey}
+use Rattle.plan_owners.specs.tree_laws.Changed.{TouchesFiles, KeepsTouched}
+use Rattle.plan_owners.specs.tree_laws.Growth.{GrowsTable}
+use Rattle.plan_owners.specs.tree_laws.LookUps.{links_lost, links_gained, TreeLedTo, touched_or_new}
+use Rattle.plan_owners.specs.tree_laws.Planned.{WritesWithin}
+use Rattle.plan_owners.specs.tree_laws.Steps.{stepped, ReplacesFiles}
+use Rattle.plan_owners.proofs.tree_laws.Planning.{planned_agrees, planned_shown}
+use Rattle.plan_owners.proofs.tree_laws.Sparing.{planned_rewrites}
+use Rattle.plan_owners.proofs.tree_laws.Stepping.{step_loaded, step_holds, step_tree}
 use Rattle.plan_owners.specs.States.{Stands, IsOwnRecord}
 use Rattle.plan_owners.proofs.Outside.{once}
 use Rattle.plan_owners.proofs.Standing.{begins}

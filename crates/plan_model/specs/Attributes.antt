@@ -1,20 +1,20 @@
 -- Records in which values are written anew.
 use Rattle.std.specs.Prelude.{◌≡◌, ◌⊎◌, ◌==◌, ℕ, Bool, true, false, List, [], ◌∷◌, Some, ⊤}
 use Rattle.std.specs.List.{list_all}
-use Rattle.record_model.specs.declared.attribute.OwnForm.{OwnForm}
-use Rattle.record_model.specs.declared.attribute.OwnForm.TheVariants.{Resident, Mapped}
-use Rattle.record_model.specs.declared.attribute.Attr.{Attr}
-use Rattle.record_model.specs.Records.{Record}
-use Rattle.record_model.specs.Constants.{file_name, standard_information}
-use Rattle.file_tree.specs.declared.link.Link.{Link}
-use Rattle.state_model.specs.Files.{record_links, is_directory_record, has_type, info_of}
-use Rattle.state_model.specs.Indexes.{is_names_root}
-use Rattle.state_model.specs.Rules.{keeps_names}
-use Rattle.state_model.specs.Streams.{is_attribute_of, attributes_of, stream_of}
-use Rattle.volume_model.specs.Indexes.{root_value}
-use Rattle.volume_model.specs.Owners.{file_runs}
-use Rattle.volume_model.specs.Sizes.{keeps_stream}
-use Rattle.stream_laws.specs.Sharing.{runs_in}
+use Rattle.index_change.specs.record_model.declared.attribute.OwnForm.{OwnForm}
+use Rattle.index_change.specs.record_model.declared.attribute.OwnForm.TheVariants.{Resident, Mapped}
+use Rattle.index_change.specs.record_model.declared.attribute.Attr.{Attr}
+use Rattle.index_change.specs.record_model.Records.{Record}
+use Rattle.index_change.specs.record_model.Constants.{file_name, standard_information}
+use Rattle.index_change.specs.file_tree.declared.link.Link.{Link}
+use Rattle.index_change.specs.state_model.Files.{record_links, is_directory_record, has_type, info_of}
+use Rattle.index_change.specs.state_model.Indexes.{is_names_root}
+use Rattle.index_change.specs.state_model.Rules.{keeps_names}
+use Rattle.index_change.specs.state_model.Streams.{is_attribute_of, attributes_of, stream_of}
+use Rattle.index_change.specs.volume_model.Indexes.{root_value}
+use Rattle.index_change.specs.volume_model.Owners.{file_runs}
+use Rattle.index_change.specs.volume_model.Sizes.{keeps_stream}
+use Rattle.plan_owners.specs.stream_laws.Sharing.{runs_in}
 
 -- the value stands in the record
 abbrev pub IsValue : OwnForm → Type 0

@@ -2,19 +2,19 @@
 -- cluster that it ever took.
 use Rattle.std.specs.Prelude.{◌≡◌, ◌⊎◌, ℕ, ◌<◌, Bool, true, false, List, [], ◌∷◌, Option, Some, None, nat_le, if◌then◌else◌}
 use Rattle.std.specs.List.{AllByRecursion}
-use Rattle.disk_model.specs.declared.block.Block.{Block}
-use Rattle.disk_model.specs.declared.block.BlockKind.{BlockKind}
-use Rattle.disk_model.specs.Sectors.{are_rivals}
-use Rattle.disk_model.specs.Content.{Content, HasSizes}
-use Rattle.record_model.specs.Records.{Record}
-use Rattle.bit_set.specs.Bits.{bit}
-use Rattle.log_model.specs.Logs.{is_in_grid}
-use Rattle.state_model.specs.declared.geometry.Geometry.{Geometry}
-use Rattle.volume_model.specs.Volumes.{Volume, cluster_bits}
-use Rattle.volume_model.specs.Owners.{volume_runs, uses}
-use Rattle.stream_laws.specs.Owners.{initialised_in, Owns, IsLive}
-use Rattle.stream_laws.specs.Sharing.{StreamKey, stream_at, runs_in}
-use Rattle.record_model.specs.declared.runs.Run.{Run}
+use Rattle.plan_bodies.specs.disk_model.declared.block.Block.{Block}
+use Rattle.plan_bodies.specs.disk_model.declared.block.BlockKind.{BlockKind}
+use Rattle.plan_bodies.specs.disk_model.Sectors.{are_rivals}
+use Rattle.plan_bodies.specs.disk_model.Content.{Content, HasSizes}
+use Rattle.index_change.specs.record_model.Records.{Record}
+use Rattle.index_change.specs.bit_set.Bits.{bit}
+use Rattle.plan_owners.specs.log_model.Logs.{is_in_grid}
+use Rattle.index_change.specs.state_model.declared.geometry.Geometry.{Geometry}
+use Rattle.index_change.specs.volume_model.Volumes.{Volume, cluster_bits}
+use Rattle.index_change.specs.volume_model.Owners.{volume_runs, uses}
+use Rattle.plan_owners.specs.stream_laws.Owners.{initialised_in, Owns, IsLive}
+use Rattle.plan_owners.specs.stream_laws.Sharing.{StreamKey, stream_at, runs_in}
+use Rattle.index_change.specs.record_model.declared.runs.Run.{Run}
 use Rattle.plan_owners.specs.States.{Stands}
 use Rattle.plan_owners.specs.Kinds.{cluster_of, OwnsAs}
 use Rattle.plan_model.specs.Attributes.{RewritesValues}

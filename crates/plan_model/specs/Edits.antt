@@ -1,26 +1,26 @@
 -- An edit of a volume's files: the smallest change that leads from a state to a state.
 use Rattle.std.specs.Prelude.{◌≡◌, ◌⊎◌, ℕ, ◌<◌, Bool, false, List, true, Some}
 use Rattle.std.specs.List.{AllByRecursion}
-use Rattle.disk_model.specs.declared.block.Block.{Block}
-use Rattle.disk_model.specs.Content.{Content}
-use Rattle.disk_model.specs.Writes.{Write, overlay}
-use Rattle.record_model.specs.Constants.{attribute_list}
-use Rattle.file_tree.specs.Trees.{node_at as node_by_number}
-use Rattle.bit_set.specs.Bits.{bit}
-use Rattle.state_model.specs.declared.geometry.Geometry.{Geometry}
-use Rattle.state_model.specs.Loads.{table_slot}
-use Rattle.state_model.specs.Streams.{block_at}
-use Rattle.volume_model.specs.Volumes.{Volume, count_of, record_bits, table_file}
-use Rattle.volume_model.specs.Nodes.{spare_at}
-use Rattle.volume_state.specs.Trees.{tree_of}
-use Rattle.stream_laws.specs.Leaving.{LiesFree}
-use Rattle.stream_laws.specs.Replacing.{FileEdit, with_edits, AreEdits, LeaveNumber}
-use Rattle.stream_laws.specs.Rewrites.{StandsAlone, new_file, with_files, is_edited}
-use Rattle.stream_laws.specs.Owners.{stream_kind}
-use Rattle.stream_laws.specs.Sharing.{StreamKey, stream_at, runs_in}
-use Rattle.stream_laws.specs.Tables.{table_key}
-use Rattle.tree_laws.specs.Changed.{TouchesFiles, AgreesElsewhere, KeepsTouched}
-use Rattle.tree_laws.specs.Planned.{IsInStream, IsInRecord, SparesOthers}
+use Rattle.plan_bodies.specs.disk_model.declared.block.Block.{Block}
+use Rattle.plan_bodies.specs.disk_model.Content.{Content}
+use Rattle.plan_bodies.specs.disk_model.Writes.{Write, overlay}
+use Rattle.index_change.specs.record_model.Constants.{attribute_list}
+use Rattle.index_change.specs.file_tree.Trees.{node_at as node_by_number}
+use Rattle.index_change.specs.bit_set.Bits.{bit}
+use Rattle.index_change.specs.state_model.declared.geometry.Geometry.{Geometry}
+use Rattle.index_change.specs.state_model.Loads.{table_slot}
+use Rattle.index_change.specs.state_model.Streams.{block_at}
+use Rattle.index_change.specs.volume_model.Volumes.{Volume, count_of, record_bits, table_file}
+use Rattle.index_change.specs.volume_model.Nodes.{spare_at}
+use Rattle.plan_owners.specs.volume_state.Trees.{tree_of}
+use Rattle.plan_owners.specs.stream_laws.Leaving.{LiesFree}
+use Rattle.plan_owners.specs.stream_laws.Replacing.{FileEdit, with_edits, AreEdits, LeaveNumber}
+use Rattle.plan_owners.specs.stream_laws.Rewrites.{StandsAlone, new_file, with_files, is_edited}
+use Rattle.plan_owners.specs.stream_laws.Owners.{stream_kind}
+use Rattle.plan_owners.specs.stream_laws.Sharing.{StreamKey, stream_at, runs_in}
+use Rattle.plan_owners.specs.stream_laws.Tables.{table_key}
+use Rattle.plan_owners.specs.tree_laws.Changed.{TouchesFiles, AgreesElsewhere, KeepsTouched}
+use Rattle.plan_owners.specs.tree_laws.Planned.{IsInStream, IsInRecord, SparesOthers}
 use Rattle.plan_owners.specs.States.{Stands, IsOwnRecord}
 
 -- the block, of the kind of its stream's blocks, is one of these streams'

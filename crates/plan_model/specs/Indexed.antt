@@ -1,14 +1,14 @@
 -- What a plan of a directory's index gives to an edit of the directory.
 use Rattle.std.specs.Prelude.{◌≡◌, ℕ, Bool, List, Some, Ok}
-use Rattle.disk_model.specs.Content.{Content}
-use Rattle.record_model.specs.declared.attribute.Attr.{Attr}
-use Rattle.record_model.specs.Records.{Record}
-use Rattle.record_model.specs.Constants.{index_allocation, names_index}
-use Rattle.file_tree.specs.declared.link.Link.{Link}
-use Rattle.index_model.specs.Walks.{walk_of}
-use Rattle.state_model.specs.Streams.{is_attribute_of}
-use Rattle.volume_model.specs.Indexes.{index_place, root_value, index_links}
-use Rattle.stream_laws.specs.Frames.{SameNodesIn}
+use Rattle.plan_bodies.specs.disk_model.Content.{Content}
+use Rattle.index_change.specs.record_model.declared.attribute.Attr.{Attr}
+use Rattle.index_change.specs.record_model.Records.{Record}
+use Rattle.index_change.specs.record_model.Constants.{index_allocation, names_index}
+use Rattle.index_change.specs.file_tree.declared.link.Link.{Link}
+use Rattle.index_change.specs.index_model.Walks.{walk_of}
+use Rattle.index_change.specs.state_model.Streams.{is_attribute_of}
+use Rattle.index_change.specs.volume_model.Indexes.{index_place, root_value, index_links}
+use Rattle.plan_owners.specs.stream_laws.Frames.{SameNodesIn}
 use Rattle.plan_model.specs.Attributes.{RewritesValues, SparesAll}
 
 -- A directory lists what a walk over its old places gives below its new root, in a content with the same nodes there, such as the

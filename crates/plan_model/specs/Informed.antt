@@ -1,21 +1,21 @@
 -- A node's times are changed: one record is written anew.
 use Rattle.std.specs.Prelude.{◌≡◌, ◌≢◌, ℕ, ◌==◌, Bool, false, [], ◌∷◌, length, Some}
 use Rattle.std.specs.Option.{option_map}
-use Rattle.disk_model.specs.declared.block.BlockKind.TheVariants.{FileRec}
-use Rattle.disk_model.specs.Content.{Content, HasSizes}
-use Rattle.record_model.specs.declared.attribute.Attr.{Attr}
-use Rattle.record_model.specs.declared.values.StdInfo.{StdInfo}
-use Rattle.record_model.specs.Records.{Record}
-use Rattle.record_model.specs.Constants.{standard_information, attribute_list}
-use Rattle.file_tree.specs.declared.node.Node.{Node}
-use Rattle.file_tree.specs.declared.tree.Tree.{Tree}
-use Rattle.file_tree.specs.Trees.{node_at as node_by_number}
-use Rattle.state_model.specs.declared.geometry.Geometry.{Geometry}
-use Rattle.state_model.specs.Files.{has_type, info_of}
-use Rattle.state_model.specs.Loads.{Used, slot_of}
-use Rattle.state_model.specs.Streams.{block_at}
-use Rattle.volume_model.specs.Volumes.{Volume, file_in, table_file, bitmap_file, upcase_file}
-use Rattle.volume_state.specs.Trees.{tree_of}
+use Rattle.plan_bodies.specs.disk_model.declared.block.BlockKind.TheVariants.{FileRec}
+use Rattle.plan_bodies.specs.disk_model.Content.{Content, HasSizes}
+use Rattle.index_change.specs.record_model.declared.attribute.Attr.{Attr}
+use Rattle.index_change.specs.record_model.declared.values.StdInfo.{StdInfo}
+use Rattle.index_change.specs.record_model.Records.{Record}
+use Rattle.index_change.specs.record_model.Constants.{standard_information, attribute_list}
+use Rattle.index_change.specs.file_tree.declared.node.Node.{Node}
+use Rattle.index_change.specs.file_tree.declared.tree.Tree.{Tree}
+use Rattle.index_change.specs.file_tree.Trees.{node_at as node_by_number}
+use Rattle.index_change.specs.state_model.declared.geometry.Geometry.{Geometry}
+use Rattle.index_change.specs.state_model.Files.{has_type, info_of}
+use Rattle.index_change.specs.state_model.Loads.{Used, slot_of}
+use Rattle.index_change.specs.state_model.Streams.{block_at}
+use Rattle.index_change.specs.volume_model.Volumes.{Volume, file_in, table_file, bitmap_file, upcase_file}
+use Rattle.plan_owners.specs.volume_state.Trees.{tree_of}
 use Rattle.plan_owners.specs.States.{Stands}
 use Rattle.plan_model.specs.Attributes.{RewritesValues}
 use Rattle.plan_bodies.specs.Bodies.{NewBody, content_with}

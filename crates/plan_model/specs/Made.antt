@@ -2,35 +2,35 @@
 use Rattle.std.specs.Prelude.{◌≡◌, ◌≢◌, ◌⊎◌, ℕ, ◌<◌, ◌≤◌, ◌==◌, ◌&&◌, ◌||◌, Bool, true, false, List, [], ◌∷◌, Some, None, Option}
 use Rattle.std.specs.List.{list_all, AllByRecursion}
 use Rattle.std.specs.Option.{option_map}
-use Rattle.disk_model.specs.declared.block.Block.{Block}
-use Rattle.disk_model.specs.declared.block.BlockKind.{BlockKind}
-use Rattle.disk_model.specs.declared.block.BlockKind.TheVariants.{FileRec}
-use Rattle.disk_model.specs.Content.{Content, HasSizes}
-use Rattle.record_model.specs.declared.attribute.Attr.{Attr}
-use Rattle.record_model.specs.Records.{Record}
-use Rattle.record_model.specs.Constants.{standard_information, attribute_list, index_root, index_allocation, bitmap_type}
-use Rattle.file_tree.specs.declared.link.Link.{Link}
-use Rattle.file_tree.specs.Trees.{node_at as node_by_number}
-use Rattle.bit_set.specs.Bits.{bit}
-use Rattle.state_model.specs.declared.geometry.Geometry.{Geometry}
-use Rattle.state_model.specs.Files.{reference, record_links, is_directory_record, has_type, is_base_record, info_of}
-use Rattle.state_model.specs.Loads.{Used, slot_of}
-use Rattle.state_model.specs.Rules.{keeps_names, is_rising}
-use Rattle.state_model.specs.Streams.{block_at}
-use Rattle.file_tree.specs.Walks.{first_user_record}
-use Rattle.state_model.specs.Trees.{is_in_system, is_system}
-use Rattle.volume_model.specs.Volumes.{Volume, count_of, file_in, bytes_or, table_file, cluster_bits, record_bits, upper_of, files_by_number}
-use Rattle.volume_model.specs.Indexes.{void_block, index_links}
-use Rattle.volume_model.specs.Nodes.{node_by, spare_at}
-use Rattle.volume_model.specs.Owners.{file_runs}
-use Rattle.volume_model.specs.Sizes.{keeps_stream}
-use Rattle.volume_state.specs.Journals.{extend_file}
-use Rattle.volume_state.specs.Trees.{tree_of}
-use Rattle.stream_laws.specs.Replacing.{FileEdit}
-use Rattle.stream_laws.specs.Rewrites.{is_edited}
-use Rattle.stream_laws.specs.Sharing.{StreamKey}
-use Rattle.tree_laws.specs.Keeping.{PartReplaced}
-use Rattle.tree_laws.specs.Planned.{IsInRecord}
+use Rattle.plan_bodies.specs.disk_model.declared.block.Block.{Block}
+use Rattle.plan_bodies.specs.disk_model.declared.block.BlockKind.{BlockKind}
+use Rattle.plan_bodies.specs.disk_model.declared.block.BlockKind.TheVariants.{FileRec}
+use Rattle.plan_bodies.specs.disk_model.Content.{Content, HasSizes}
+use Rattle.index_change.specs.record_model.declared.attribute.Attr.{Attr}
+use Rattle.index_change.specs.record_model.Records.{Record}
+use Rattle.index_change.specs.record_model.Constants.{standard_information, attribute_list, index_root, index_allocation, bitmap_type}
+use Rattle.index_change.specs.file_tree.declared.link.Link.{Link}
+use Rattle.index_change.specs.file_tree.Trees.{node_at as node_by_number}
+use Rattle.index_change.specs.bit_set.Bits.{bit}
+use Rattle.index_change.specs.state_model.declared.geometry.Geometry.{Geometry}
+use Rattle.index_change.specs.state_model.Files.{reference, record_links, is_directory_record, has_type, is_base_record, info_of}
+use Rattle.index_change.specs.state_model.Loads.{Used, slot_of}
+use Rattle.index_change.specs.state_model.Rules.{keeps_names, is_rising}
+use Rattle.index_change.specs.state_model.Streams.{block_at}
+use Rattle.index_change.specs.file_tree.Walks.{first_user_record}
+use Rattle.index_change.specs.state_model.Trees.{is_in_system, is_system}
+use Rattle.index_change.specs.volume_model.Volumes.{Volume, count_of, file_in, bytes_or, table_file, cluster_bits, record_bits, upper_of, files_by_number}
+use Rattle.index_change.specs.volume_model.Indexes.{void_block, index_links}
+use Rattle.index_change.specs.volume_model.Nodes.{node_by, spare_at}
+use Rattle.index_change.specs.volume_model.Owners.{file_runs}
+use Rattle.index_change.specs.volume_model.Sizes.{keeps_stream}
+use Rattle.plan_owners.specs.volume_state.Journals.{extend_file}
+use Rattle.plan_owners.specs.volume_state.Trees.{tree_of}
+use Rattle.plan_owners.specs.stream_laws.Replacing.{FileEdit}
+use Rattle.plan_owners.specs.stream_laws.Rewrites.{is_edited}
+use Rattle.plan_owners.specs.stream_laws.Sharing.{StreamKey}
+use Rattle.plan_owners.specs.tree_laws.Keeping.{PartReplaced}
+use Rattle.plan_owners.specs.tree_laws.Planned.{IsInRecord}
 use Rattle.plan_owners.specs.States.{Stands}
 use Rattle.plan_model.specs.Attributes.{RewritesValues}
 use Rattle.plan_bodies.specs.Bodies.{NewBody, whole_write, content_with, AreBodies, body_in}

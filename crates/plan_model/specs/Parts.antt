@@ -1,20 +1,20 @@
 -- Records in which attributes are put in, taken out or replaced.
 use Rattle.std.specs.Prelude.{◌≡◌, ◌+◌, ◌==◌, ℕ, Bool, true, false, List, [], ◌∷◌, ◌++◌, Some, ◌⊎◌}
 use Rattle.std.specs.List.{filter_map, flat_map, list_all, AllByRecursion}
-use Rattle.record_model.specs.declared.attribute.OwnForm.TheVariants.{Mapped}
-use Rattle.record_model.specs.declared.attribute.Attr.{Attr}
-use Rattle.record_model.specs.declared.attribute.Sizes.{Sizes}
-use Rattle.record_model.specs.Records.{Record}
-use Rattle.record_model.specs.Constants.{file_name, standard_information, data_type, bitmap_type, index_allocation, names_index}
-use Rattle.disk_model.specs.Content.{Content}
-use Rattle.volume_model.specs.Volumes.{Volume}
-use Rattle.file_tree.specs.declared.link.Link.{Link}
-use Rattle.state_model.specs.Files.{attr_link, reference, record_links, has_type, info_of}
-use Rattle.state_model.specs.Rules.{keeps_names}
-use Rattle.state_model.specs.Streams.{is_attribute_of, attributes_of, attribute_runs, stream_of}
-use Rattle.volume_model.specs.Owners.{file_runs, uses}
-use Rattle.volume_model.specs.Sizes.{are_joined, keeps_stream, keeps_streams}
-use Rattle.tree_laws.specs.Keeping.{PartReplaced}
+use Rattle.index_change.specs.record_model.declared.attribute.OwnForm.TheVariants.{Mapped}
+use Rattle.index_change.specs.record_model.declared.attribute.Attr.{Attr}
+use Rattle.index_change.specs.record_model.declared.attribute.Sizes.{Sizes}
+use Rattle.index_change.specs.record_model.Records.{Record}
+use Rattle.index_change.specs.record_model.Constants.{file_name, standard_information, data_type, bitmap_type, index_allocation, names_index}
+use Rattle.plan_bodies.specs.disk_model.Content.{Content}
+use Rattle.index_change.specs.volume_model.Volumes.{Volume}
+use Rattle.index_change.specs.file_tree.declared.link.Link.{Link}
+use Rattle.index_change.specs.state_model.Files.{attr_link, reference, record_links, has_type, info_of}
+use Rattle.index_change.specs.state_model.Rules.{keeps_names}
+use Rattle.index_change.specs.state_model.Streams.{is_attribute_of, attributes_of, attribute_runs, stream_of}
+use Rattle.index_change.specs.volume_model.Owners.{file_runs, uses}
+use Rattle.index_change.specs.volume_model.Sizes.{are_joined, keeps_stream, keeps_streams}
+use Rattle.plan_owners.specs.tree_laws.Keeping.{PartReplaced}
 
 -- The record keeps its sequence and flags, and one part of its attributes is replaced: put in, where none was there, or taken out,
 -- where none comes.

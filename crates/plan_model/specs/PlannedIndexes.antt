@@ -1,23 +1,23 @@
 -- What a plan of a directory's index gives to an edit of the directory, in that plan's words.
 use Rattle.std.specs.Prelude.{◌≡◌, ◌⊎◌, ℕ, Bool, true, List, [], ◌∷◌, Some}
 use Rattle.std.specs.List.{AllByRecursion}
-use Rattle.disk_model.specs.Content.{Content}
-use Rattle.record_model.specs.declared.attribute.Attr.{Attr}
-use Rattle.record_model.specs.Records.{Record}
-use Rattle.record_model.specs.Constants.{index_allocation, names_index}
-use Rattle.file_tree.specs.declared.link.Link.{Link}
-use Rattle.file_tree.specs.Names.{comes_before}
-use Rattle.index_model.specs.declared.key.Key.{Key}
-use Rattle.index_model.specs.Trees.{Tree}
-use Rattle.block_view.specs.Changes.{content_after}
+use Rattle.plan_bodies.specs.disk_model.Content.{Content}
+use Rattle.index_change.specs.record_model.declared.attribute.Attr.{Attr}
+use Rattle.index_change.specs.record_model.Records.{Record}
+use Rattle.index_change.specs.record_model.Constants.{index_allocation, names_index}
+use Rattle.index_change.specs.file_tree.declared.link.Link.{Link}
+use Rattle.index_change.specs.file_tree.Names.{comes_before}
+use Rattle.index_change.specs.index_model.declared.key.Key.{Key}
+use Rattle.index_change.specs.index_model.Trees.{Tree}
+use Rattle.index_change.specs.block_view.Changes.{content_after}
 use Rattle.index_change.specs.declared.plan.DirPlan.{DirPlan}
 use Rattle.index_change.specs.Orders.{put_link}
 use Rattle.index_change.specs.Plans.{NewIndex}
-use Rattle.state_model.specs.Rules.{is_rising}
-use Rattle.state_model.specs.Streams.{is_attribute_of}
-use Rattle.volume_model.specs.Indexes.{index_place, root_value, index_links}
-use Rattle.stream_laws.specs.Frames.{SameNodesIn}
-use Rattle.tree_laws.specs.Keeping.{PartReplaced}
+use Rattle.index_change.specs.state_model.Rules.{is_rising}
+use Rattle.index_change.specs.state_model.Streams.{is_attribute_of}
+use Rattle.index_change.specs.volume_model.Indexes.{index_place, root_value, index_links}
+use Rattle.plan_owners.specs.stream_laws.Frames.{SameNodesIn}
+use Rattle.plan_owners.specs.tree_laws.Keeping.{PartReplaced}
 use Rattle.plan_model.specs.Attributes.{RewritesValues, SparesAll}
 
 -- each of the links comes before this one, or behind it

@@ -1,23 +1,23 @@
 -- An edit of a volume's files that may be of $MFT itself, and in which the file table may grow.
 use Rattle.std.specs.Prelude.{◌≡◌, ◌⊎◌, ℕ, ◌<◌, ◌≤◌, Bool, false, List, Ok}
 use Rattle.std.specs.List.{AllByRecursion}
-use Rattle.disk_model.specs.Content.{Content}
-use Rattle.disk_model.specs.Writes.{Write, overlay}
-use Rattle.state_model.specs.declared.geometry.Geometry.{Geometry}
-use Rattle.state_model.specs.declared.stream.Extents.{Extents}
-use Rattle.state_model.specs.Loads.{Free, record_count, table_of, table_slot}
-use Rattle.volume_model.specs.Volumes.{Volume, count_of}
-use Rattle.volume_state.specs.Trees.{tree_of}
-use Rattle.stream_laws.specs.Leaving.{LiesFree}
-use Rattle.stream_laws.specs.Replacing.{FileEdit, with_edits, AreEdits}
-use Rattle.stream_laws.specs.Rewrites.{StandsAlone, TableGoesOn, new_file, with_table, is_edited}
-use Rattle.stream_laws.specs.Sharing.{StreamKey}
-use Rattle.stream_laws.specs.Tables.{table_key}
-use Rattle.tree_laws.specs.Changed.{TouchesFiles, KeepsTouched}
-use Rattle.tree_laws.specs.Growth.{GrowsTable}
-use Rattle.tree_laws.specs.LookUps.{links_lost, links_gained, TreeLedTo, touched_or_new}
-use Rattle.tree_laws.specs.Planned.{IsInStream, IsInRecord, SparesOthers, SparesLists}
-use Rattle.tree_laws.specs.Steps.{stepped}
+use Rattle.plan_bodies.specs.disk_model.Content.{Content}
+use Rattle.plan_bodies.specs.disk_model.Writes.{Write, overlay}
+use Rattle.index_change.specs.state_model.declared.geometry.Geometry.{Geometry}
+use Rattle.index_change.specs.state_model.declared.stream.Extents.{Extents}
+use Rattle.index_change.specs.state_model.Loads.{Free, record_count, table_of, table_slot}
+use Rattle.index_change.specs.volume_model.Volumes.{Volume, count_of}
+use Rattle.plan_owners.specs.volume_state.Trees.{tree_of}
+use Rattle.plan_owners.specs.stream_laws.Leaving.{LiesFree}
+use Rattle.plan_owners.specs.stream_laws.Replacing.{FileEdit, with_edits, AreEdits}
+use Rattle.plan_owners.specs.stream_laws.Rewrites.{StandsAlone, TableGoesOn, new_file, with_table, is_edited}
+use Rattle.plan_owners.specs.stream_laws.Sharing.{StreamKey}
+use Rattle.plan_owners.specs.stream_laws.Tables.{table_key}
+use Rattle.plan_owners.specs.tree_laws.Changed.{TouchesFiles, KeepsTouched}
+use Rattle.plan_owners.specs.tree_laws.Growth.{GrowsTable}
+use Rattle.plan_owners.specs.tree_laws.LookUps.{links_lost, links_gained, TreeLedTo, touched_or_new}
+use Rattle.plan_owners.specs.tree_laws.Planned.{IsInStream, IsInRecord, SparesOthers, SparesLists}
+use Rattle.plan_owners.specs.tree_laws.Steps.{stepped}
 use Rattle.plan_owners.specs.States.{Stands, IsOwnRecord}
 use Rattle.plan_model.specs.Edits.{edited, KeepsBits}
 

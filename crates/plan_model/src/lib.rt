@@ -6,7 +6,11 @@
 
 mod laws;
 
+pub use index_change::{
+    DirPlace, DirPlan, FixedValue, Node, NodesPlan, is_attribute_of, lay_out, stream_of,
+};
 pub use laws::{
     attrs_replaced, drafts_go_on, file_is_made, files_edited, index_walked, indexes_of_plans,
     pieces_joined, runs_given, table_edited, times_changed, values_rewritten,
 };
+pub use plan_owners::{owned_once, states_stand};

@@ -6,43 +6,43 @@ use Rattle.std.specs.List.{list_any, filter_map, range_with_len}
 use Rattle.std.specs.Cmp.Lexicographic.{pointwise}
 use Rattle.std.proofs.Math.Nat.{le-div_iff_mul-le}
 use Rattle.std.proofs.lemmas.Bool.{cases_Bool, cases_lt, and_parts, and_from, or_parts, or_from, both_ways, false_from_ne_true, eqb-true, ne_eqb, le-leb, lt-ltb}
-use Rattle.disk_model.specs.declared.block.Block.{Block}
-use Rattle.disk_model.specs.declared.block.Body.{Body}
-use Rattle.disk_model.specs.declared.block.BlockKind.{BlockKind}
-use Rattle.disk_model.specs.declared.block.BlockKind.TheVariants.{Plain, FileRec, Index}
-use Rattle.disk_model.specs.Sectors.{sectors}
-use Rattle.disk_model.specs.Content.{Content}
-use Rattle.record_model.specs.Records.{Record}
-use Rattle.record_model.specs.Constants.{attribute_list, data_type, index_allocation, bitmap_type, names_index}
-use Rattle.file_tree.specs.declared.node.Kind.TheVariants.{Directory, System}
-use Rattle.file_tree.specs.declared.node.Node.{Node}
-use Rattle.state_model.specs.declared.geometry.Geometry.{Geometry}
-use Rattle.state_model.specs.declared.geometry.MapRefusal.{MapRefusal}
-use Rattle.state_model.specs.declared.stream.Extents.{Extents}
-use Rattle.state_model.specs.declared.stream.Stream.{Stream}
-use Rattle.state_model.specs.declared.stream.Stream.TheVariants.{Held, Placed}
-use Rattle.state_model.specs.Files.{is_directory_record}
-use Rattle.state_model.specs.Loads.{Torn, boot_block, slot_of, table_of, table_slot, record_count, torn_refusal, list_stream, extents_or}
-use Rattle.state_model.specs.Rules.{implies, at_file}
-use Rattle.state_model.specs.Streams.{stream_of, block_at}
-use Rattle.file_tree.specs.Walks.{first_user_record}
-use Rattle.state_model.specs.Trees.{is_system}
-use Rattle.volume_model.specs.Volumes.{Volume, volume_of, count_of, file_in, file_stream, bytes_or, record_bitmap, cluster_bits, table_file, mirror_file, log_file, bitmap_file, upcase_file, upper_of}
-use Rattle.volume_model.specs.Indexes.{void_block, or_void, index_block, index_stream, keeps_index}
-use Rattle.volume_model.specs.Nodes.{shows_data, kind_in, node_at, nodes_by, free_clusters}
-use Rattle.volume_model.specs.Owners.{volume_runs, keeps_cluster_bit, keeps_record_bit}
-use Rattle.volume_model.specs.Sizes.{is_torn_at, begun, has_torn, stream_has_torn, is_initialised, keeps_untorn, keeps_table, keeps_streams, keeps_sizes}
-use Rattle.volume_state.specs.Journals.{entries_name, journal_of, fault_of, some_journal}
-use Rattle.volume_state.specs.Rules.{first_broken, file_count, broken_3, broken_4, broken_6, broken_7, broken_9}
-use Rattle.volume_state.specs.Trees.{IsState, tree_with, tree_of, volume_journal}
-use Rattle.stream_laws.specs.Frames.{SameBytesInSome, SameRecordIn, SameIndexIn}
-use Rattle.stream_laws.specs.Owners.{stream_kind, initialised_in}
-use Rattle.stream_laws.specs.Sharing.{StreamKey, stream_at, runs_in}
-use Rattle.stream_laws.specs.Tables.{table_key}
-use Rattle.stream_laws.specs.Volumes.{SameTableIn}
-use Rattle.stream_laws.proofs.Loading.{same_volume, same_cluster_bits}
-use Rattle.stream_laws.proofs.Rewriting.{volume_parts, parts_of_files}
-use Rattle.stream_laws.proofs.Tabling.{table_extents_is, table_runs}
+use Rattle.log_model.specs.disk_model.declared.block.Block.{Block}
+use Rattle.log_model.specs.disk_model.declared.block.Body.{Body}
+use Rattle.log_model.specs.disk_model.declared.block.BlockKind.{BlockKind}
+use Rattle.log_model.specs.disk_model.declared.block.BlockKind.TheVariants.{Plain, FileRec, Index}
+use Rattle.log_model.specs.disk_model.Sectors.{sectors}
+use Rattle.log_model.specs.disk_model.Content.{Content}
+use Rattle.tree_laws.specs.record_model.Records.{Record}
+use Rattle.tree_laws.specs.record_model.Constants.{attribute_list, data_type, index_allocation, bitmap_type, names_index}
+use Rattle.tree_laws.specs.file_tree.declared.node.Kind.TheVariants.{Directory, System}
+use Rattle.tree_laws.specs.file_tree.declared.node.Node.{Node}
+use Rattle.tree_laws.specs.state_model.declared.geometry.Geometry.{Geometry}
+use Rattle.tree_laws.specs.state_model.declared.geometry.MapRefusal.{MapRefusal}
+use Rattle.tree_laws.specs.state_model.declared.stream.Extents.{Extents}
+use Rattle.tree_laws.specs.state_model.declared.stream.Stream.{Stream}
+use Rattle.tree_laws.specs.state_model.declared.stream.Stream.TheVariants.{Held, Placed}
+use Rattle.tree_laws.specs.state_model.Files.{is_directory_record}
+use Rattle.tree_laws.specs.state_model.Loads.{Torn, boot_block, slot_of, table_of, table_slot, record_count, torn_refusal, list_stream, extents_or}
+use Rattle.tree_laws.specs.state_model.Rules.{implies, at_file}
+use Rattle.tree_laws.specs.state_model.Streams.{stream_of, block_at}
+use Rattle.tree_laws.specs.file_tree.Walks.{first_user_record}
+use Rattle.tree_laws.specs.state_model.Trees.{is_system}
+use Rattle.tree_laws.specs.volume_model.Volumes.{Volume, volume_of, count_of, file_in, file_stream, bytes_or, record_bitmap, cluster_bits, table_file, mirror_file, log_file, bitmap_file, upcase_file, upper_of}
+use Rattle.tree_laws.specs.volume_model.Indexes.{void_block, or_void, index_block, index_stream, keeps_index}
+use Rattle.tree_laws.specs.volume_model.Nodes.{shows_data, kind_in, node_at, nodes_by, free_clusters}
+use Rattle.tree_laws.specs.volume_model.Owners.{volume_runs, keeps_cluster_bit, keeps_record_bit}
+use Rattle.tree_laws.specs.volume_model.Sizes.{is_torn_at, begun, has_torn, stream_has_torn, is_initialised, keeps_untorn, keeps_table, keeps_streams, keeps_sizes}
+use Rattle.tree_laws.specs.volume_state.Journals.{entries_name, journal_of, fault_of, some_journal}
+use Rattle.tree_laws.specs.volume_state.Rules.{first_broken, file_count, broken_3, broken_4, broken_6, broken_7, broken_9}
+use Rattle.tree_laws.specs.volume_state.Trees.{IsState, tree_with, tree_of, volume_journal}
+use Rattle.tree_laws.specs.stream_laws.Frames.{SameBytesInSome, SameRecordIn, SameIndexIn}
+use Rattle.tree_laws.specs.stream_laws.Owners.{stream_kind, initialised_in}
+use Rattle.tree_laws.specs.stream_laws.Sharing.{StreamKey, stream_at, runs_in}
+use Rattle.tree_laws.specs.stream_laws.Tables.{table_key}
+use Rattle.tree_laws.specs.stream_laws.Volumes.{SameTableIn}
+use Rattle.tree_laws.proofs.stream_laws.Loading.{same_volume, same_cluster_bits}
+use Rattle.tree_laws.proofs.stream_laws.Rewriting.{volume_parts, parts_of_files}
+use Rattle.tree_laws.proofs.stream_laws.Tabling.{table_extents_is, table_runs}
 use Rattle.tree_laws.specs.Contents.{SameFreeRecords, SameIndexAt, SameShownAt, SameEntries}
 use Rattle.tree_laws.proofs.Agreeing.{same_upper, same_index, kept_bit, same_spares, same_journal, same_node}
 use Rattle.tree_laws.proofs.Keeping.{rules_of, from_rules, passes_below, fails_nowhere}
@@ -50,15 +50,15 @@ use Rattle.tree_laws.proofs.Planning.{holder_number}
 use Rattle.plan_owners.specs.States.{Stands}
 use Rattle.plan_owners.specs.Agreeing.{AgreeOnOwned, IsJudged, list_key, log_key}
 use Rattle.plan_owners.proofs.Standing.{loaded_files, counted, some_file, begins, rule_4_parts, streams_at}
-use Rattle.stream_laws.proofs.Recording.{record_read}
-use Rattle.stream_laws.proofs.Tabling.{inside_list}
-use Rattle.host_base.specs.declared.file_ref.FileRef.{FileRef}
-use Rattle.file_tree.specs.declared.journal.Journal.{Journal}
-use Rattle.state_model.specs.Trees.{all_links}
-use Rattle.volume_model.specs.Volumes.{files_by_number}
-use Rattle.volume_model.specs.Nodes.{spare_numbers}
-use Rattle.state_model.specs.Rules.{first_failing}
-use Rattle.state_model.specs.Loads.{data_stream}
+use Rattle.tree_laws.proofs.stream_laws.Recording.{record_read}
+use Rattle.tree_laws.proofs.stream_laws.Tabling.{inside_list}
+use Rattle.tree_laws.specs.host_base.declared.file_ref.FileRef.{FileRef}
+use Rattle.tree_laws.specs.file_tree.declared.journal.Journal.{Journal}
+use Rattle.tree_laws.specs.state_model.Trees.{all_links}
+use Rattle.tree_laws.specs.volume_model.Volumes.{files_by_number}
+use Rattle.tree_laws.specs.volume_model.Nodes.{spare_numbers}
+use Rattle.tree_laws.specs.state_model.Rules.{first_failing}
+use Rattle.tree_laws.specs.state_model.Loads.{data_stream}
 use Rattle.std.proofs.Math.Nat.{mul_assoc}
 
 -- ---- each record of the table begins below its initialised size

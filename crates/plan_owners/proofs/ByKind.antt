@@ -1,23 +1,23 @@
 -- Whose each block is, at eight sectors a cluster.
 use Rattle.std.proofs.Common.{◌≡◌, ◌≢◌, ◌⊎◌, ℕ, ◌+◌, ◌*◌, ◌/◌, ◌%◌, ◌<◌, ◌≤◌, Bool, true, false, not, ltb, leb, List, refl, sym, ap, subst, ◌∙◌, inl, inr, arith}
 use Rattle.std.proofs.lemmas.Bool.{cases_lt, and_parts, eqb-true, eq-eqb, ltb-true, le-leb}
-use Rattle.disk_model.specs.declared.block.Block.{Block}
-use Rattle.disk_model.specs.declared.block.BlockKind.{BlockKind}
-use Rattle.disk_model.specs.declared.block.BlockKind.TheVariants.{Plain, FileRec, Index}
-use Rattle.disk_model.specs.Sectors.{sectors, same_kind, overlap, are_rivals}
-use Rattle.disk_model.specs.Content.{Content}
-use Rattle.bit_set.specs.Bits.{bit}
+use Rattle.log_model.specs.disk_model.declared.block.Block.{Block}
+use Rattle.log_model.specs.disk_model.declared.block.BlockKind.{BlockKind}
+use Rattle.log_model.specs.disk_model.declared.block.BlockKind.TheVariants.{Plain, FileRec, Index}
+use Rattle.log_model.specs.disk_model.Sectors.{sectors, same_kind, overlap, are_rivals}
+use Rattle.log_model.specs.disk_model.Content.{Content}
+use Rattle.tree_laws.specs.bit_set.Bits.{bit}
 use Rattle.log_model.specs.Logs.{may_begin, is_in_grid}
-use Rattle.record_model.specs.declared.runs.Run.{Run}
-use Rattle.state_model.specs.declared.geometry.Geometry.{Geometry}
-use Rattle.state_model.specs.Rules.{implies}
-use Rattle.volume_model.specs.Volumes.{Volume, cluster_bits}
-use Rattle.volume_model.specs.Owners.{volume_runs, uses, keeps_cluster_bit}
-use Rattle.volume_state.specs.Rules.{broken_6}
-use Rattle.stream_laws.specs.Owners.{stream_kind, Owns}
-use Rattle.stream_laws.specs.Sharing.{stream_at, runs_in}
-use Rattle.stream_laws.proofs.Placing.{Lies, lies, lies_straight, lies_in_cluster, is_used}
-use Rattle.stream_laws.proofs.Sharing.{stream_of_volume, streams_apart}
+use Rattle.tree_laws.specs.record_model.declared.runs.Run.{Run}
+use Rattle.tree_laws.specs.state_model.declared.geometry.Geometry.{Geometry}
+use Rattle.tree_laws.specs.state_model.Rules.{implies}
+use Rattle.tree_laws.specs.volume_model.Volumes.{Volume, cluster_bits}
+use Rattle.tree_laws.specs.volume_model.Owners.{volume_runs, uses, keeps_cluster_bit}
+use Rattle.tree_laws.specs.volume_state.Rules.{broken_6}
+use Rattle.tree_laws.specs.stream_laws.Owners.{stream_kind, Owns}
+use Rattle.tree_laws.specs.stream_laws.Sharing.{stream_at, runs_in}
+use Rattle.tree_laws.proofs.stream_laws.Placing.{Lies, lies, lies_straight, lies_in_cluster, is_used}
+use Rattle.tree_laws.proofs.stream_laws.Sharing.{stream_of_volume, streams_apart}
 use Rattle.tree_laws.proofs.Keeping.{rules_of, passes_below}
 use Rattle.plan_owners.specs.States.{Stands}
 use Rattle.plan_owners.specs.Kinds.{cluster_of, OwnsAs}

@@ -5,32 +5,32 @@ use Rattle.std.specs.List.{sum_by, filter, flat_map, list_all, range_with_len}
 use Rattle.std.specs.Cmp.Lexicographic.{pointwise}
 use Rattle.std.proofs.lemmas.Bool.{cases_Bool, cases_lt, and_parts, and_from, eq-eqb, leb-true}
 use Rattle.std.proofs.lemmas.List.Sums.{sum_by-cons}
-use Rattle.host_base.specs.FileRefs.{same_reference}
-use Rattle.disk_model.specs.Content.{Content}
-use Rattle.record_model.specs.declared.attribute.OwnForm.{OwnForm}
-use Rattle.record_model.specs.declared.attribute.OwnForm.TheVariants.{Resident, Mapped}
-use Rattle.record_model.specs.declared.attribute.Attr.{Attr}
-use Rattle.record_model.specs.declared.runs.Run.{Run}
-use Rattle.record_model.specs.Records.{Record, has_lawful_values, shaped_at}
-use Rattle.record_model.specs.Values.{is_resident_and, has_lawful_value}
-use Rattle.record_model.specs.Constants.{file_name, standard_information}
-use Rattle.state_model.specs.declared.geometry.Geometry.{Geometry}
-use Rattle.state_model.specs.Files.{reference}
-use Rattle.state_model.specs.Loads.{Used, slot_of, slot_at, total_clusters, table_slot, record_count, whole_record, has_all_pairs, is_used, entries_of, named_attrs, all_attrs}
-use Rattle.state_model.specs.Streams.{first_vcn, is_attribute_of, attributes_of, attribute_runs, form_runs, form_stream, joined, stream_of, block_at}
-use Rattle.record_model.specs.declared.list_entry.ListEntry.{ListEntry}
-use Rattle.disk_model.specs.declared.block.Block.{Block}
-use Rattle.disk_model.specs.declared.block.BlockKind.TheVariants.{FileRec}
-use Rattle.volume_model.specs.Volumes.{Volume}
-use Rattle.volume_model.specs.Sizes.{follow, are_joined, lies_inside, fits_volume, keeps_stream, keeps_streams}
-use Rattle.volume_model.specs.Owners.{volume_runs, uses, keeps_owner}
-use Rattle.volume_state.specs.Rules.{broken_5}
-use Rattle.host_base.specs.Answers.{◌>>=◌, needs}
+use Rattle.tree_laws.specs.host_base.FileRefs.{same_reference}
+use Rattle.log_model.specs.disk_model.Content.{Content}
+use Rattle.tree_laws.specs.record_model.declared.attribute.OwnForm.{OwnForm}
+use Rattle.tree_laws.specs.record_model.declared.attribute.OwnForm.TheVariants.{Resident, Mapped}
+use Rattle.tree_laws.specs.record_model.declared.attribute.Attr.{Attr}
+use Rattle.tree_laws.specs.record_model.declared.runs.Run.{Run}
+use Rattle.tree_laws.specs.record_model.Records.{Record, has_lawful_values, shaped_at}
+use Rattle.tree_laws.specs.record_model.Values.{is_resident_and, has_lawful_value}
+use Rattle.tree_laws.specs.record_model.Constants.{file_name, standard_information}
+use Rattle.tree_laws.specs.state_model.declared.geometry.Geometry.{Geometry}
+use Rattle.tree_laws.specs.state_model.Files.{reference}
+use Rattle.tree_laws.specs.state_model.Loads.{Used, slot_of, slot_at, total_clusters, table_slot, record_count, whole_record, has_all_pairs, is_used, entries_of, named_attrs, all_attrs}
+use Rattle.tree_laws.specs.state_model.Streams.{first_vcn, is_attribute_of, attributes_of, attribute_runs, form_runs, form_stream, joined, stream_of, block_at}
+use Rattle.tree_laws.specs.record_model.declared.list_entry.ListEntry.{ListEntry}
+use Rattle.log_model.specs.disk_model.declared.block.Block.{Block}
+use Rattle.log_model.specs.disk_model.declared.block.BlockKind.TheVariants.{FileRec}
+use Rattle.tree_laws.specs.volume_model.Volumes.{Volume}
+use Rattle.tree_laws.specs.volume_model.Sizes.{follow, are_joined, lies_inside, fits_volume, keeps_stream, keeps_streams}
+use Rattle.tree_laws.specs.volume_model.Owners.{volume_runs, uses, keeps_owner}
+use Rattle.tree_laws.specs.volume_state.Rules.{broken_5}
+use Rattle.tree_laws.specs.host_base.Answers.{◌>>=◌, needs}
 use Rattle.std.specs.Prelude.{Result, Ok, Err}
-use Rattle.stream_laws.specs.Places.{AreOnce}
-use Rattle.stream_laws.proofs.Placing.{unused}
-use Rattle.stream_laws.proofs.Sharing.{attr_uses, file_uses, uses-flat_map, volume_sum, attributes_sum}
-use Rattle.stream_laws.proofs.Tabling.{used_part, used_some, read_in_use}
+use Rattle.tree_laws.specs.stream_laws.Places.{AreOnce}
+use Rattle.tree_laws.proofs.stream_laws.Placing.{unused}
+use Rattle.tree_laws.proofs.stream_laws.Sharing.{attr_uses, file_uses, uses-flat_map, volume_sum, attributes_sum}
+use Rattle.tree_laws.proofs.stream_laws.Tabling.{used_part, used_some, read_in_use}
 use Rattle.tree_laws.proofs.Keeping.{rules_of, passes_below}
 use Rattle.plan_owners.specs.States.{Stands}
 use Rattle.plan_owners.proofs.Standing.{slots, slot_record, slot_past, FileParts, file_parts, listed_file, streams_at}

@@ -3,25 +3,25 @@ use Rattle.std.proofs.Common.{◌≡◌, ℕ, ◌+◌, ◌*◌, ◌<◌, ◌≤�
 use Rattle.std.proofs.lemmas.Bool.{cases_Bool, and_parts, eqb-true, leb-true}
 use Rattle.std.proofs.lemmas.List.{get_or_past}
 use Rattle.std.proofs.lemmas.List.FromFn.{length-map-range_with_len, get_or-map-range_with_len}
-use Rattle.disk_model.specs.declared.block.Block.{Block}
-use Rattle.disk_model.specs.declared.block.BlockKind.{BlockKind}
-use Rattle.disk_model.specs.declared.block.BlockKind.TheVariants.{FileRec}
-use Rattle.disk_model.specs.Content.{Content}
-use Rattle.record_model.specs.Records.{Record}
-use Rattle.record_model.specs.Constants.{data_type, bitmap_type}
-use Rattle.file_tree.specs.declared.tree.Tree.{Tree}
-use Rattle.state_model.specs.declared.geometry.Geometry.{Geometry}
-use Rattle.state_model.specs.Files.{Table, file_at, only_base, is_base_record}
-use Rattle.state_model.specs.Loads.{Used, record_count, table_slot, used_record, records_of, table_in, all_attrs, whole_file, joined_file, files_of, files_in}
-use Rattle.state_model.specs.Rules.{at_file, implies}
-use Rattle.volume_model.specs.Volumes.{Volume, volume_of, count_of, file_in, file_stream, size_or, record_bitmap, cluster_bitmap, table_file, bitmap_file}
-use Rattle.volume_model.specs.Sizes.{is_at, placed_record, keeps_place, keeps_bitmaps, keeps_streams, keeps_sizes}
-use Rattle.volume_state.specs.Rules.{file_count, broken_4}
-use Rattle.volume_state.specs.Trees.{IsState, tree_of}
-use Rattle.stream_laws.specs.Tables.{BeginsAtBoot}
-use Rattle.stream_laws.proofs.Placing.{lies}
-use Rattle.stream_laws.proofs.Rewriting.{volume_parts, parts_of_files}
-use Rattle.stream_laws.proofs.Tabling.{only_base_some, used_some, inside_list}
+use Rattle.log_model.specs.disk_model.declared.block.Block.{Block}
+use Rattle.log_model.specs.disk_model.declared.block.BlockKind.{BlockKind}
+use Rattle.log_model.specs.disk_model.declared.block.BlockKind.TheVariants.{FileRec}
+use Rattle.log_model.specs.disk_model.Content.{Content}
+use Rattle.tree_laws.specs.record_model.Records.{Record}
+use Rattle.tree_laws.specs.record_model.Constants.{data_type, bitmap_type}
+use Rattle.tree_laws.specs.file_tree.declared.tree.Tree.{Tree}
+use Rattle.tree_laws.specs.state_model.declared.geometry.Geometry.{Geometry}
+use Rattle.tree_laws.specs.state_model.Files.{Table, file_at, only_base, is_base_record}
+use Rattle.tree_laws.specs.state_model.Loads.{Used, record_count, table_slot, used_record, records_of, table_in, all_attrs, whole_file, joined_file, files_of, files_in}
+use Rattle.tree_laws.specs.state_model.Rules.{at_file, implies}
+use Rattle.tree_laws.specs.volume_model.Volumes.{Volume, volume_of, count_of, file_in, file_stream, size_or, record_bitmap, cluster_bitmap, table_file, bitmap_file}
+use Rattle.tree_laws.specs.volume_model.Sizes.{is_at, placed_record, keeps_place, keeps_bitmaps, keeps_streams, keeps_sizes}
+use Rattle.tree_laws.specs.volume_state.Rules.{file_count, broken_4}
+use Rattle.tree_laws.specs.volume_state.Trees.{IsState, tree_of}
+use Rattle.tree_laws.specs.stream_laws.Tables.{BeginsAtBoot}
+use Rattle.tree_laws.proofs.stream_laws.Placing.{lies}
+use Rattle.tree_laws.proofs.stream_laws.Rewriting.{volume_parts, parts_of_files}
+use Rattle.tree_laws.proofs.stream_laws.Tabling.{only_base_some, used_some, inside_list}
 use Rattle.tree_laws.proofs.Keeping.{rules_of, passes_below}
 use Rattle.plan_owners.specs.States.{Stands}
 

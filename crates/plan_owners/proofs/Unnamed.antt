@@ -3,27 +3,27 @@ use Rattle.std.proofs.Common.{◌≡◌, ◌≢◌, ℕ, ◌*◌, ◌<◌, Bool,
 use Rattle.std.specs.Prelude.{◌⊎◌}
 use Rattle.std.specs.List.{list_all}
 use Rattle.std.proofs.lemmas.Bool.{cases_Bool, cases_lt, cases_eq, and_parts, or_from, both_ways, eqb-true}
-use Rattle.host_base.specs.FileRefs.{same_reference}
-use Rattle.disk_model.specs.declared.block.BlockKind.TheVariants.{FileRec}
-use Rattle.disk_model.specs.declared.block.Block.{Block}
-use Rattle.disk_model.specs.Content.{Content}
-use Rattle.record_model.specs.declared.list_entry.ListEntry.{ListEntry}
-use Rattle.record_model.specs.Records.{Record}
-use Rattle.record_model.specs.Constants.{attribute_list}
-use Rattle.bit_set.specs.Bits.{bit}
-use Rattle.state_model.specs.declared.geometry.Geometry.{Geometry}
-use Rattle.state_model.specs.declared.stream.Stream.{Stream}
-use Rattle.state_model.specs.Files.{Table, file_at, is_base_record, reference, has_type}
-use Rattle.state_model.specs.Loads.{Free, Used, slot_of, slot_at, is_used, table_slot, used_record, record_count, boot_block, table_of, list_stream, list_entries_in, entries_of, holds_named, is_held, has_held_list, breaks_list, breaks_9, breaks_10, broken_rule, or_rule, rule_at}
-use Rattle.state_model.specs.Rules.{implies}
-use Rattle.state_model.specs.Streams.{block_at}
-use Rattle.volume_model.specs.Volumes.{Volume, count_of, block_bytes, record_block, record_bytes, is_in_use, record_bits}
-use Rattle.volume_model.specs.Owners.{keeps_record_bit}
-use Rattle.volume_state.specs.Rules.{broken_7}
-use Rattle.stream_laws.specs.Rewrites.{names_one}
-use Rattle.stream_laws.specs.Volumes.{base_record}
-use Rattle.stream_laws.proofs.Rewriting.{volume_parts, parts_of_files}
-use Rattle.stream_laws.proofs.Tabling.{only_base_some, used_some, in_boot_block, of_body, no_list_stream}
+use Rattle.tree_laws.specs.host_base.FileRefs.{same_reference}
+use Rattle.log_model.specs.disk_model.declared.block.BlockKind.TheVariants.{FileRec}
+use Rattle.log_model.specs.disk_model.declared.block.Block.{Block}
+use Rattle.log_model.specs.disk_model.Content.{Content}
+use Rattle.tree_laws.specs.record_model.declared.list_entry.ListEntry.{ListEntry}
+use Rattle.tree_laws.specs.record_model.Records.{Record}
+use Rattle.tree_laws.specs.record_model.Constants.{attribute_list}
+use Rattle.tree_laws.specs.bit_set.Bits.{bit}
+use Rattle.tree_laws.specs.state_model.declared.geometry.Geometry.{Geometry}
+use Rattle.tree_laws.specs.state_model.declared.stream.Stream.{Stream}
+use Rattle.tree_laws.specs.state_model.Files.{Table, file_at, is_base_record, reference, has_type}
+use Rattle.tree_laws.specs.state_model.Loads.{Free, Used, slot_of, slot_at, is_used, table_slot, used_record, record_count, boot_block, table_of, list_stream, list_entries_in, entries_of, holds_named, is_held, has_held_list, breaks_list, breaks_9, breaks_10, broken_rule, or_rule, rule_at}
+use Rattle.tree_laws.specs.state_model.Rules.{implies}
+use Rattle.tree_laws.specs.state_model.Streams.{block_at}
+use Rattle.tree_laws.specs.volume_model.Volumes.{Volume, count_of, block_bytes, record_block, record_bytes, is_in_use, record_bits}
+use Rattle.tree_laws.specs.volume_model.Owners.{keeps_record_bit}
+use Rattle.tree_laws.specs.volume_state.Rules.{broken_7}
+use Rattle.tree_laws.specs.stream_laws.Rewrites.{names_one}
+use Rattle.tree_laws.specs.stream_laws.Volumes.{base_record}
+use Rattle.tree_laws.proofs.stream_laws.Rewriting.{volume_parts, parts_of_files}
+use Rattle.tree_laws.proofs.stream_laws.Tabling.{only_base_some, used_some, in_boot_block, of_body, no_list_stream}
 use Rattle.tree_laws.proofs.Keeping.{rules_of, passes_below}
 use Rattle.plan_owners.specs.States.{Stands, IsOwnRecord}
 use Rattle.plan_owners.proofs.Standing.{slots, slot_record, slot_past, loaded_files, some_file, file_parts, begins}

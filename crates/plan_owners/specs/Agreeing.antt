@@ -1,19 +1,19 @@
 -- What a state's image is judged by: two contents that agree on what a volume owns.
 use Rattle.std.specs.Prelude.{◌≡◌, ◌≢◌, ℕ, [], true, find, ◌==◌, Some, Ok}
-use Rattle.disk_model.specs.declared.block.Block.{Block}
-use Rattle.disk_model.specs.Content.{Content}
-use Rattle.record_model.specs.declared.attribute.Attr.{Attr}
-use Rattle.record_model.specs.Records.{Record}
-use Rattle.record_model.specs.Constants.{attribute_list, data_type}
-use Rattle.state_model.specs.declared.geometry.Geometry.{Geometry}
-use Rattle.state_model.specs.Loads.{list_stream, attr_name}
-use Rattle.volume_model.specs.Volumes.{Volume, volume_of, log_file}
-use Rattle.volume_model.specs.Indexes.{void_block}
-use Rattle.volume_state.specs.Trees.{IsState, tree_of}
-use Rattle.stream_laws.specs.Frames.{SameBytesInSome}
-use Rattle.stream_laws.specs.Owners.{IsLive}
-use Rattle.stream_laws.specs.Sharing.{StreamKey, stream_at}
-use Rattle.stream_laws.specs.Volumes.{base_record}
+use Rattle.log_model.specs.disk_model.declared.block.Block.{Block}
+use Rattle.log_model.specs.disk_model.Content.{Content}
+use Rattle.tree_laws.specs.record_model.declared.attribute.Attr.{Attr}
+use Rattle.tree_laws.specs.record_model.Records.{Record}
+use Rattle.tree_laws.specs.record_model.Constants.{attribute_list, data_type}
+use Rattle.tree_laws.specs.state_model.declared.geometry.Geometry.{Geometry}
+use Rattle.tree_laws.specs.state_model.Loads.{list_stream, attr_name}
+use Rattle.tree_laws.specs.volume_model.Volumes.{Volume, volume_of, log_file}
+use Rattle.tree_laws.specs.volume_model.Indexes.{void_block}
+use Rattle.tree_laws.specs.volume_state.Trees.{IsState, tree_of}
+use Rattle.tree_laws.specs.stream_laws.Frames.{SameBytesInSome}
+use Rattle.tree_laws.specs.stream_laws.Owners.{IsLive}
+use Rattle.tree_laws.specs.stream_laws.Sharing.{StreamKey, stream_at}
+use Rattle.tree_laws.specs.stream_laws.Volumes.{base_record}
 use Rattle.plan_owners.specs.States.{Stands}
 
 -- the log: the unnamed data of $LogFile

@@ -1,16 +1,16 @@
 -- Whose each block is, at eight sectors a cluster: by clusters, and by the kind of the stream's blocks.
 use Rattle.std.specs.Prelude.{◌≡◌, ◌≢◌, ℕ, ◌/◌, ◌<◌, true}
-use Rattle.disk_model.specs.declared.block.Block.{Block}
-use Rattle.disk_model.specs.declared.block.BlockKind.{BlockKind}
-use Rattle.disk_model.specs.Sectors.{are_rivals}
-use Rattle.disk_model.specs.Content.{Content}
-use Rattle.bit_set.specs.Bits.{bit}
+use Rattle.log_model.specs.disk_model.declared.block.Block.{Block}
+use Rattle.log_model.specs.disk_model.declared.block.BlockKind.{BlockKind}
+use Rattle.log_model.specs.disk_model.Sectors.{are_rivals}
+use Rattle.log_model.specs.disk_model.Content.{Content}
+use Rattle.tree_laws.specs.bit_set.Bits.{bit}
 use Rattle.log_model.specs.Logs.{is_in_grid}
-use Rattle.state_model.specs.declared.geometry.Geometry.{Geometry}
-use Rattle.volume_model.specs.Volumes.{Volume, cluster_bits}
-use Rattle.volume_model.specs.Owners.{volume_runs, uses}
-use Rattle.stream_laws.specs.Owners.{stream_kind, Owns}
-use Rattle.stream_laws.specs.Sharing.{StreamKey, stream_at, runs_in}
+use Rattle.tree_laws.specs.state_model.declared.geometry.Geometry.{Geometry}
+use Rattle.tree_laws.specs.volume_model.Volumes.{Volume, cluster_bits}
+use Rattle.tree_laws.specs.volume_model.Owners.{volume_runs, uses}
+use Rattle.tree_laws.specs.stream_laws.Owners.{stream_kind, Owns}
+use Rattle.tree_laws.specs.stream_laws.Sharing.{StreamKey, stream_at, runs_in}
 use Rattle.plan_owners.specs.States.{Stands}
 
 -- the cluster in which a block of the grid lies

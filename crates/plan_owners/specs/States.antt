@@ -1,19 +1,19 @@
 -- What each state of a volume gives to the plans that change it.
 use Rattle.std.specs.Prelude.{◌≡◌, ℕ, ◌<◌, ◌⊎◌, Bool, true, false, Some, None, Ok}
-use Rattle.disk_model.specs.Content.{Content}
-use Rattle.record_model.specs.Records.{Record}
-use Rattle.file_tree.specs.declared.tree.Tree.{Tree}
-use Rattle.bit_set.specs.Bits.{bit}
-use Rattle.state_model.specs.declared.geometry.Geometry.{Geometry}
-use Rattle.state_model.specs.Loads.{entries_of}
-use Rattle.volume_model.specs.Volumes.{Volume, volume_of, count_of, file_in, record_bits}
-use Rattle.volume_model.specs.Owners.{volume_runs}
-use Rattle.volume_state.specs.Rules.{first_broken}
-use Rattle.volume_state.specs.Trees.{IsState, tree_of}
-use Rattle.stream_laws.specs.Places.{AreOnce}
-use Rattle.stream_laws.specs.Rewrites.{names_one}
-use Rattle.stream_laws.specs.Tables.{BeginsAtBoot}
-use Rattle.stream_laws.specs.Volumes.{base_record}
+use Rattle.log_model.specs.disk_model.Content.{Content}
+use Rattle.tree_laws.specs.record_model.Records.{Record}
+use Rattle.tree_laws.specs.file_tree.declared.tree.Tree.{Tree}
+use Rattle.tree_laws.specs.bit_set.Bits.{bit}
+use Rattle.tree_laws.specs.state_model.declared.geometry.Geometry.{Geometry}
+use Rattle.tree_laws.specs.state_model.Loads.{entries_of}
+use Rattle.tree_laws.specs.volume_model.Volumes.{Volume, volume_of, count_of, file_in, record_bits}
+use Rattle.tree_laws.specs.volume_model.Owners.{volume_runs}
+use Rattle.tree_laws.specs.volume_state.Rules.{first_broken}
+use Rattle.tree_laws.specs.volume_state.Trees.{IsState, tree_of}
+use Rattle.tree_laws.specs.stream_laws.Places.{AreOnce}
+use Rattle.tree_laws.specs.stream_laws.Rewrites.{names_one}
+use Rattle.tree_laws.specs.stream_laws.Tables.{BeginsAtBoot}
+use Rattle.tree_laws.specs.stream_laws.Volumes.{base_record}
 
 -- The content is a state, and this is its volume, which has clusters.
 pub record Stands (c : Content) (g : Geometry) (clusters : ℕ) (v : Volume) : Type 0 where

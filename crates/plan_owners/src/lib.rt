@@ -7,3 +7,4 @@
 mod laws;
 
 pub use laws::{owned_is_all, owners_by_kind, states_stand};
+pub use tree_laws::owned_once;

@@ -5,8 +5,7 @@ ghost use Rattle.change_plan.specs.States.{is_data_change};
 
 use bit_set::BitSet;
 use block_view::{Block, BlockKind, Body, Held, MemoryView, View, ViewFault};
-use change_plan::VolumeStreams;
-use draft_records::data_extents;
+use change_plan::{VolumeStreams, data_extents};
 use file_record::FileRec;
 use host_base::Bytes;
 use record_model::{DATA, FILE_NAME, INDEX_ROOT, NAMES_INDEX, STANDARD_INFORMATION};

@@ -1,2 +1,3 @@
+pub use Rattle.space_model.proofs as space_model
 pub mod Spanning
 pub mod Stepping

@@ -6,7 +6,7 @@ use Rattle.std.proofs.lemmas.Bool.Decides.{nat_tests}
 use Rattle.std.proofs.lemmas.List.{get_or_past, ext_get_or}
 use Rattle.std.proofs.lemmas.List.Elements.{All-append}
 use Rattle.std.proofs.lemmas.List.FromFn.{length-map-range_with_len, get_or-map-range_with_len}
-use Rattle.bit_set.specs.Bits.{bit, IsClearRun, IsFirstRun, IsFirstRunIn, IsLongestRun}
+use Rattle.space_model.specs.bit_set.Bits.{bit, IsClearRun, IsFirstRun, IsFirstRunIn, IsLongestRun}
 use Rattle.space_model.specs.Choosing.{with_run}
 use Rattle.space_model.proofs.Searching.{length-with_run, with_run-inside, with_run-others}
 use Rattle.plan_space.specs.declared.taken.Span.{Span}

@@ -4,8 +4,8 @@ use Rattle.std.specs.Prelude.{◌==◌, count_by, MatchOption, Option, Some, Non
 use Rattle.std.proofs.lemmas.Bool.{cases_lt, false≢true}
 use Rattle.std.proofs.lemmas.List.{append_assoc, append-nil, take_all}
 use Rattle.std.proofs.lemmas.Bool.Decides.{nat_tests}
-use Rattle.record_model.specs.declared.runs.Run.{Run}
-use Rattle.bit_set.specs.Bits.{bit, IsClearRun, IsFirstRun, IsLongestRun}
+use Rattle.space_model.specs.record_model.declared.runs.Run.{Run}
+use Rattle.space_model.specs.bit_set.Bits.{bit, IsClearRun, IsFirstRun, IsLongestRun}
 use Rattle.space_model.specs.Choosing.{with_run, with_runs, run_at, behind, chosen_anywhere, chosen}
 use Rattle.space_model.proofs.Fitting.{counted_after}
 use Rattle.space_model.proofs.Searching.{first_is_fit, first_at_once, longest_is_fit, longest_at_once, all_set, enough, step_is, behind_is}

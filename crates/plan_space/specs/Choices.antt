@@ -1,7 +1,7 @@
 -- Steps of a choice of clusters.
 use Rattle.std.specs.Prelude.{◌≡◌, ℕ, ◌+◌, ◌-◌, ◌<◌, ◌≤◌, Bool, not, List, ◌++◌, take, count_by, Option}
-use Rattle.record_model.specs.declared.runs.Run.{Run}
-use Rattle.bit_set.specs.Bits.{IsClearRun}
+use Rattle.space_model.specs.record_model.declared.runs.Run.{Run}
+use Rattle.space_model.specs.bit_set.Bits.{IsClearRun}
 use Rattle.space_model.specs.Choosing.{at_once, lowest_fit, chosen_anywhere, chosen, with_runs}
 
 -- the run that is taken next where so many are wanted

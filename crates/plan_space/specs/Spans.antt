@@ -1,7 +1,7 @@
 -- Clusters that were taken out of a bitmap which stays as it is.
 use Rattle.std.specs.Prelude.{ℕ, ◌<◌, Bool, false, ◌&&◌, ◌||◌, nat_le, nat_lt, if◌then◌else◌, List, [], ◌∷◌, length, map, All, Option, Some, None}
 use Rattle.std.specs.List.{range_with_len}
-use Rattle.bit_set.specs.Bits.{bit}
+use Rattle.space_model.specs.bit_set.Bits.{bit}
 use Rattle.plan_space.specs.declared.taken.Span.{Span}
 
 -- the clusters of a span

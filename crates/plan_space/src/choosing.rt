@@ -1,14 +1,13 @@
 //! The choice of clusters.
 ghost use Rattle.std.specs.Prelude.{◌≡◌, ◌+◌, ◌-◌, ◌^◌, ◌<◌, ◌≤◌, ◌++◌, [], ◌∷◌, ℕ, Err, IfOk, IfErr, IfSome, OnOk, OnErr, MatchOption, length, not, count_by};
-ghost use Rattle.bit_set.specs.Bits.{IsClearRun};
+ghost use Rattle.space_model.specs.bit_set.Bits.{IsClearRun};
 ghost use Rattle.space_model.specs.Choosing.{behind, chosen_anywhere, chosen, with_runs};
 ghost use Rattle.plan_space.specs.Choices.{IsNextRun, TakesFirst, TakesRun, TakesBehind};
 ghost use Rattle.plan_space.specs.declared.fault.SpaceFault.TheVariants.{Short, Memory as no_memory};
 
 use crate::fault::SpaceFault;
 use crate::free_bits::FreeBits;
-use host_base::Memory;
-use record_model::Run;
+use space_model::{Memory, Run};
 use std::alloc::{AllocError, Global};
 
 // How many bits directly behind this one are clear, so many at most.

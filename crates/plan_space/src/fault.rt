@@ -1,4 +1,4 @@
-use host_base::Memory;
+use space_model::Memory;
 use std::alloc::AllocError;
 use thiserror::Error;
 

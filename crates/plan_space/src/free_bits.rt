@@ -1,10 +1,9 @@
 //! Bits that tell which clusters are free.
 ghost use Rattle.std.specs.Prelude.{◌≡◌, ℕ, ◌<◌, Bool, true, not, List, length, count_by, OnOk, OnErr, MatchOption};
-ghost use Rattle.bit_set.specs.Bits.{bit, IsClearRun, IsFirstRun, IsLongestRun};
+ghost use Rattle.space_model.specs.bit_set.Bits.{bit, IsClearRun, IsFirstRun, IsLongestRun};
 ghost use Rattle.space_model.specs.Choosing.{with_run};
 
-use bit_set::BitSet;
-use host_base::Memory;
+use space_model::{BitSet, Memory};
 
 /// Bits of which some are clear, and from which runs of clear ones are taken.
 pub trait FreeBits {

@@ -10,9 +10,8 @@ mod fault;
 mod free_bits;
 mod taken;
 
-pub use bit_set::BitSet;
 pub use choosing::choose;
 pub use fault::SpaceFault;
 pub use free_bits::FreeBits;
-pub use record_model::Run;
+pub use space_model::{BitSet, Run, Runs};
 pub use taken::Taken;

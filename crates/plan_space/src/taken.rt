@@ -3,8 +3,7 @@ ghost use Rattle.std.specs.Prelude.{◌≡◌, ◌++◌, [], ◌∷◌, OnOk, On
 ghost use Rattle.plan_space.specs.Spans.{is_taken, with_spans, barrier, AreSome};
 
 use crate::free_bits::FreeBits;
-use bit_set::BitSet;
-use host_base::Memory;
+use space_model::{BitSet, Memory};
 use std::alloc::{AllocError, Global};
 
 // Clusters from `first` on, below `end`.

@@ -9,14 +9,14 @@ use Rattle.disk_model.specs.Content.{Content}
 use Rattle.disk_model.specs.Sectors.{same_block, are_rivals}
 use Rattle.disk_model.proofs.Frames.{same_block-is}
 use Rattle.record_model.specs.declared.runs.Run.{Run}
-use Rattle.state_model.specs.declared.geometry.Geometry.{Geometry}
-use Rattle.state_model.specs.Streams.{block_at}
-use Rattle.volume_model.specs.Volumes.{Volume}
-use Rattle.stream_laws.specs.Owners.{stream_kind, Owns, IsLive, OwnedOnce}
-use Rattle.stream_laws.specs.Sharing.{StreamKey, stream_at, runs_in}
-use Rattle.stream_laws.proofs.Rewriting.{volume_parts}
-use Rattle.plan_owners.specs.States.{Stands, StatesStand}
-use Rattle.plan_owners.specs.Agreeing.{IsJudged, log_key}
+use Rattle.plan_model.specs.state_model.declared.geometry.Geometry.{Geometry}
+use Rattle.plan_model.specs.state_model.Streams.{block_at}
+use Rattle.plan_model.specs.volume_model.Volumes.{Volume}
+use Rattle.plan_model.specs.stream_laws.Owners.{stream_kind, Owns, IsLive, OwnedOnce}
+use Rattle.plan_model.specs.stream_laws.Sharing.{StreamKey, stream_at, runs_in}
+use Rattle.plan_model.proofs.stream_laws.Rewriting.{volume_parts}
+use Rattle.plan_model.specs.plan_owners.States.{Stands, StatesStand}
+use Rattle.plan_model.specs.plan_owners.Agreeing.{IsJudged, log_key}
 use Rattle.state_blocks.specs.Needing.{IsNeeded}
 use Rattle.state_blocks.specs.Drafts.{is_changed, DraftIn}
 use Rattle.state_blocks.proofs.Needing.{listed_judged}

@@ -6,13 +6,13 @@ use Rattle.disk_model.specs.declared.block.BlockKind.{BlockKind}
 use Rattle.disk_model.specs.declared.block.Change.{Change}
 use Rattle.disk_model.specs.Content.{Content}
 use Rattle.record_model.specs.Records.{Record}
-use Rattle.state_model.specs.declared.geometry.Geometry.{Geometry}
-use Rattle.state_model.specs.Loads.{list_stream}
-use Rattle.volume_model.specs.Volumes.{Volume}
-use Rattle.stream_laws.specs.Sharing.{stream_at, runs_in}
-use Rattle.stream_laws.specs.Volumes.{base_record}
-use Rattle.plan_owners.specs.States.{Stands}
-use Rattle.plan_owners.specs.Agreeing.{IsJudged, log_key, list_key}
+use Rattle.plan_model.specs.state_model.declared.geometry.Geometry.{Geometry}
+use Rattle.plan_model.specs.state_model.Loads.{list_stream}
+use Rattle.plan_model.specs.volume_model.Volumes.{Volume}
+use Rattle.plan_model.specs.stream_laws.Sharing.{stream_at, runs_in}
+use Rattle.plan_model.specs.stream_laws.Volumes.{base_record}
+use Rattle.plan_model.specs.plan_owners.States.{Stands}
+use Rattle.plan_model.specs.plan_owners.Agreeing.{IsJudged, log_key, list_key}
 use Rattle.state_blocks.specs.Needing.{IsListed, IsNeeded}
 use Rattle.state_blocks.specs.Drafts.{is_changed, DraftIn}
 use Rattle.plan_bodies.specs.Bodies.{NewBody, content_with}

@@ -1,9 +1,7 @@
 //! The laws of these definitions.
 ghost use Rattle.plan_spares.specs.Plans.{PlansSpare};
 
-use plan_model::drafts_go_on;
-use plan_owners::states_stand;
-use stream_laws::owned_once;
+use plan_model::{drafts_go_on, owned_once, states_stand};
 
 /// Law: the changes of a plan's draft, which leave the log where it lies and each attribute list in
 /// its own record, have no rival among the blocks from which the state before is read; and each

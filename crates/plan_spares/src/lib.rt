@@ -7,3 +7,4 @@
 mod laws;
 
 pub use laws::plans_spare;
+pub use plan_model::drafts_go_on;

@@ -20,11 +20,11 @@ use Rattle.stream_runs.specs.Runs.{moved, grown}
 use Rattle.stream_runs.specs.Laws.{InOneCluster}
 use Rattle.stream_runs.proofs.Merging.{follow-append, follow-moved, uses-moved}
 use Rattle.stream_runs.proofs.Places.{Rise, rise_of, places-merged, places-grown}
-use Rattle.tree_laws.proofs.Keeping.{rules_of}
-use Rattle.tree_laws.proofs.Owning.{in_no_stream}
-use Rattle.plan_owners.specs.States.{Stands}
-use Rattle.plan_owners.proofs.Outside.{unused_outside}
-use Rattle.plan_model.proofs.Drafting.{per_is}
+use Rattle.plan_growth.proofs.tree_laws.Keeping.{rules_of}
+use Rattle.plan_growth.proofs.tree_laws.Owning.{in_no_stream}
+use Rattle.plan_growth.specs.plan_owners.States.{Stands}
+use Rattle.plan_growth.proofs.plan_owners.Outside.{unused_outside}
+use Rattle.plan_growth.proofs.plan_model.Drafting.{per_is}
 use Rattle.plan_growth.specs.Streams.{MayTake}
 use Rattle.plan_growth.proofs.Alike.{one_cluster}
 

@@ -20,9 +20,9 @@ use Rattle.stream_laws.specs.Owners.{initialised_in}
 use Rattle.stream_laws.specs.Sharing.{runs_in}
 use Rattle.stream_laws.proofs.Sharing.{uses-none}
 use Rattle.stream_runs.proofs.Places.{places-grown}
-use Rattle.resized_streams.specs.Resizing.{unplaced}
-use Rattle.plan_owners.specs.States.{Stands}
-use Rattle.plan_model.proofs.Drafting.{per_is}
+use Rattle.plan_growth.specs.resized_streams.Resizing.{unplaced}
+use Rattle.plan_growth.specs.plan_owners.States.{Stands}
+use Rattle.plan_growth.proofs.plan_model.Drafting.{per_is}
 use Rattle.plan_growth.specs.Streams.{MayTake}
 use Rattle.plan_growth.proofs.Growing.{uses-grown}
 use Rattle.plan_growth.proofs.Ruled.{sizes_lawful}

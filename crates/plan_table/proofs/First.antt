@@ -3,7 +3,7 @@ use Rattle.std.proofs.Common.{◌≡◌, ℕ, suc, ◌+◌, ◌-◌, max, List, 
 use Rattle.std.specs.List.{range_with_len}
 use Rattle.host_base.specs.declared.file_ref.FileRef.{FileRef}
 use Rattle.file_tree.specs.Walks.{first_user_record}
-use Rattle.tree_laws.specs.Growth.{new_number, new_numbers}
+use Rattle.plan_growth.specs.tree_laws.Growth.{new_number, new_numbers}
 use Rattle.plan_table.specs.Growing.{NewNumberIsFirst}
 
 pub first_number : NewNumberIsFirst

@@ -61,41 +61,41 @@ use Rattle.stream_laws.proofs.Replacing.{clusters_replaced}
 use Rattle.stream_laws.proofs.Rewriting.{volume_parts, count_is, goes_on_whole, blank_free, blank_unsigned, none_behind}
 use Rattle.stream_laws.proofs.Sharing.{same_key}
 use Rattle.stream_laws.proofs.Tabling.{inside_list, no_list_stream, read_in_use, table_by_record}
-use Rattle.tree_laws.specs.Changed.{TouchesFiles, AgreesElsewhere, KeepsTouched}
-use Rattle.tree_laws.specs.Growth.{GrowsTable, new_numbers}
-use Rattle.tree_laws.specs.Keeping.{KeepsNames, KeepsDirectory}
-use Rattle.tree_laws.specs.Leaves.{names_there}
-use Rattle.tree_laws.specs.Owners.{TakesClusters}
-use Rattle.tree_laws.specs.Parts.{journal_number}
-use Rattle.tree_laws.specs.Planned.{IsInStream, IsInRecord, WritesWithin, SparesOthers, SparesLists}
-use Rattle.tree_laws.specs.Steps.{ReplacesFiles}
-use Rattle.tree_laws.proofs.Agreeing.{no_more_torn, kept_sizes, same_journal, same_upper}
-use Rattle.tree_laws.proofs.Ascending.{all_by}
-use Rattle.tree_laws.proofs.Changing.{all_keep, changed_holds, untouched_node, untouched_spare}
-use Rattle.tree_laws.proofs.Growing.{grown_count, grown_tree}
-use Rattle.tree_laws.proofs.Keeping.{rules_of, passes_below}
-use Rattle.tree_laws.proofs.Naming.{this_or_other, names_everywhere, file_elsewhere, links_kept}
-use Rattle.tree_laws.proofs.Owning.{takes_5, takes_6}
-use Rattle.tree_laws.proofs.Parting.{cluster_bits_stay, upper_stays, number_stays}
-use Rattle.tree_laws.proofs.Planning.{planned_record, planned_agrees, planned_shown, planned_upper, journal_agrees, same_index_at}
-use Rattle.tree_laws.proofs.Ruling.{same_listed, same_name_in, same_count, keeps_both}
-use Rattle.tree_laws.proofs.Sparing.{planned_lists}
-use Rattle.tree_laws.proofs.Stepping.{step_loaded, step_holds, records_enough}
+use Rattle.plan_growth.specs.tree_laws.Changed.{TouchesFiles, AgreesElsewhere, KeepsTouched}
+use Rattle.plan_growth.specs.tree_laws.Growth.{GrowsTable, new_numbers}
+use Rattle.plan_growth.specs.tree_laws.Keeping.{KeepsNames, KeepsDirectory}
+use Rattle.plan_growth.specs.tree_laws.Leaves.{names_there}
+use Rattle.plan_growth.specs.tree_laws.Owners.{TakesClusters}
+use Rattle.plan_growth.specs.tree_laws.Parts.{journal_number}
+use Rattle.plan_growth.specs.tree_laws.Planned.{IsInStream, IsInRecord, WritesWithin, SparesOthers, SparesLists}
+use Rattle.plan_growth.specs.tree_laws.Steps.{ReplacesFiles}
+use Rattle.plan_growth.proofs.tree_laws.Agreeing.{no_more_torn, kept_sizes, same_journal, same_upper}
+use Rattle.plan_growth.proofs.tree_laws.Ascending.{all_by}
+use Rattle.plan_growth.proofs.tree_laws.Changing.{all_keep, changed_holds, untouched_node, untouched_spare}
+use Rattle.plan_growth.proofs.tree_laws.Growing.{grown_count, grown_tree}
+use Rattle.plan_growth.proofs.tree_laws.Keeping.{rules_of, passes_below}
+use Rattle.plan_growth.proofs.tree_laws.Naming.{this_or_other, names_everywhere, file_elsewhere, links_kept}
+use Rattle.plan_growth.proofs.tree_laws.Owning.{takes_5, takes_6}
+use Rattle.plan_growth.proofs.tree_laws.Parting.{cluster_bits_stay, upper_stays, number_stays}
+use Rattle.plan_growth.proofs.tree_laws.Planning.{planned_record, planned_agrees, planned_shown, planned_upper, journal_agrees, same_index_at}
+use Rattle.plan_growth.proofs.tree_laws.Ruling.{same_listed, same_name_in, same_count, keeps_both}
+use Rattle.plan_growth.proofs.tree_laws.Sparing.{planned_lists}
+use Rattle.plan_growth.proofs.tree_laws.Stepping.{step_loaded, step_holds, records_enough}
 use Rattle.stream_runs.proofs.Merging.{follow-grown}
 use Rattle.stream_runs.proofs.Places.{places-grown}
-use Rattle.plan_owners.specs.States.{Stands, IsOwnRecord}
-use Rattle.plan_owners.specs.Kinds.{OwnsAs}
-use Rattle.plan_owners.proofs.Outside.{once}
-use Rattle.plan_owners.proofs.Standing.{some_file, as_file, rule_4_at, begins}
-use Rattle.plan_owners.proofs.Unnamed.{unnamed}
+use Rattle.plan_growth.specs.plan_owners.States.{Stands, IsOwnRecord}
+use Rattle.plan_growth.specs.plan_owners.Kinds.{OwnsAs}
+use Rattle.plan_growth.proofs.plan_owners.Outside.{once}
+use Rattle.plan_growth.proofs.plan_owners.Standing.{some_file, as_file, rule_4_at, begins}
+use Rattle.plan_growth.proofs.plan_owners.Unnamed.{unnamed}
 use Rattle.plan_bodies.specs.Bodies.{NewBody, whole_write, writes_in, content_with, body_in, body_or}
 use Rattle.plan_bodies.proofs.Putting.{body_put}
-use Rattle.plan_model.specs.Drafts.{FollowsOwners, GoesOn, IsPut, gives_runs}
-use Rattle.plan_model.specs.Informed.{with_record}
-use Rattle.plan_model.proofs.Drafting.{per_is}
-use Rattle.plan_model.proofs.Informing.{slot_in_use, marked_in_use, implied}
-use Rattle.plan_model.proofs.OneRecord.{streams_test, by_test, OwnRecord, slot_begins, slot_put, file_slot}
-use Rattle.plan_model.proofs.Quiet.{record_owned, given_here, given_before, given_clear}
+use Rattle.plan_growth.specs.plan_model.Drafts.{FollowsOwners, GoesOn, IsPut, gives_runs}
+use Rattle.plan_growth.specs.plan_model.Informed.{with_record}
+use Rattle.plan_growth.proofs.plan_model.Drafting.{per_is}
+use Rattle.plan_growth.proofs.plan_model.Informing.{slot_in_use, marked_in_use, implied}
+use Rattle.plan_growth.proofs.plan_model.OneRecord.{streams_test, by_test, OwnRecord, slot_begins, slot_put, file_slot}
+use Rattle.plan_growth.proofs.plan_model.Quiet.{record_owned, given_here, given_before, given_clear}
 use Rattle.plan_growth.specs.Growing.{MayGive}
 use Rattle.plan_growth.specs.Streams.{marks_streams}
 use Rattle.plan_growth.proofs.Alike.{begun_in}
@@ -109,7 +109,7 @@ use Rattle.plan_table.specs.Growing.{new_clusters, longer_table, numbers_key, lo
 use Rattle.plan_table.proofs.Behind.{in_one, old_or_free}
 use Rattle.plan_table.proofs.Bits.{IsWider, becomes_wider}
 use Rattle.plan_table.proofs.Room.{count_as_sum, sum_of_none, sum_of_two, uses_sum}
-use Rattle.tree_laws.proofs.Counting.{room_balance}
+use Rattle.plan_growth.proofs.tree_laws.Counting.{room_balance}
 use Rattle.plan_table.proofs.Table.{table_no_list, table_own, table_records, table_each, table_fits, table_initialised, table_whole, numbers_fit, numbers_whole}
 use Rattle.plan_table.proofs.Remade.{IsAnother, IsRemade, table_remade}
 

@@ -1,3 +1,4 @@
+pub use Rattle.record_values.proofs as record_values
 pub mod Values
 pub mod Remade
 pub mod Behind

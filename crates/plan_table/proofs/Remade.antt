@@ -21,12 +21,12 @@ use Rattle.volume_model.specs.Nodes.{first_flags}
 use Rattle.volume_model.specs.Owners.{file_runs, uses}
 use Rattle.volume_model.specs.Sizes.{are_joined, fits_volume, keeps_stream}
 use Rattle.stream_laws.specs.Sharing.{runs_in}
-use Rattle.record_streams.specs.Placing.{placed_record}
-use Rattle.resized_streams.specs.Resizing.{unplaced}
-use Rattle.record_streams.proofs.Streams.{placed_one}
+use Rattle.record_values.specs.record_streams.Placing.{placed_record}
+use Rattle.plan_growth.specs.resized_streams.Resizing.{unplaced}
+use Rattle.record_values.proofs.record_streams.Streams.{placed_one}
 use Rattle.record_values.specs.Values.{valued_record}
 use Rattle.record_values.proofs.Valued.{values_put}
-use Rattle.plan_model.proofs.Rewriting.{same_uses, same_types, same_directory, same_sizes, same_attributes, same_links, same_names, same_info, same_root}
+use Rattle.plan_growth.proofs.plan_model.Rewriting.{same_uses, same_types, same_directory, same_sizes, same_attributes, same_links, same_names, same_info, same_root}
 use Rattle.plan_growth.specs.Streams.{IsWritten}
 use Rattle.plan_growth.proofs.Placed.{some_attributes, placed_head, placed_types, placed_directory, placed_links, placed_names, placed_root, placed_info, placed_is_there, other_pieces, placed_uses, placed_sizes, placed_all}
 use Rattle.plan_growth.proofs.Ruled.{runs_before}

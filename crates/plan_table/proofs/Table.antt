@@ -20,10 +20,10 @@ use Rattle.volume_model.specs.Sizes.{are_joined, fits_volume, keeps_stream, has_
 use Rattle.stream_laws.specs.Tables.{BeginsAtBoot}
 use Rattle.stream_laws.proofs.Rewriting.{attrs_alone}
 use Rattle.stream_laws.proofs.Tabling.{no_list_stream, table_extents_is}
-use Rattle.plan_owners.specs.States.{Stands}
-use Rattle.plan_owners.proofs.Standing.{slots, file_parts, some_file, streams_at, begins}
-use Rattle.plan_owners.proofs.Unnamed.{no_list_of_table}
-use Rattle.plan_model.proofs.OneRecord.{streams_test, by_test, OwnRecord, own_record}
+use Rattle.plan_growth.specs.plan_owners.States.{Stands}
+use Rattle.plan_growth.proofs.plan_owners.Standing.{slots, file_parts, some_file, streams_at, begins}
+use Rattle.plan_growth.proofs.plan_owners.Unnamed.{no_list_of_table}
+use Rattle.plan_growth.proofs.plan_model.OneRecord.{streams_test, by_test, OwnRecord, own_record}
 use Rattle.plan_growth.proofs.Placed.{some_attributes, stream_rule}
 
 negated : (t : Bool) → not t ≡ true → t ≡ false

@@ -11,7 +11,7 @@ use Rattle.record_model.specs.declared.attribute.OwnForm.TheVariants.{Resident, 
 use Rattle.record_model.specs.declared.runs.Run.{Run}
 use Rattle.record_model.specs.Constants.{index_root}
 use Rattle.record_model.specs.Records.{Record}
-use Rattle.record_writer.specs.Normal.{normal_form}
+use Rattle.plan_growth.specs.record_writer.Normal.{normal_form}
 use Rattle.state_model.specs.declared.stream.Stream.TheVariants.{Held}
 use Rattle.state_model.specs.Indexes.{is_names_root}
 use Rattle.state_model.specs.Loads.{total_clusters}
@@ -19,10 +19,10 @@ use Rattle.state_model.specs.Streams.{first_vcn, form_runs, form_stream, is_attr
 use Rattle.volume_model.specs.Owners.{uses}
 use Rattle.volume_model.specs.Sizes.{are_joined}
 use Rattle.stream_laws.proofs.Sharing.{attributes_sum, attribute_kind}
-use Rattle.record_streams.specs.Placing.{without_stream, with_stream}
-use Rattle.record_streams.proofs.Streams.{some_by}
+use Rattle.record_values.specs.record_streams.Placing.{without_stream, with_stream}
+use Rattle.record_values.proofs.record_streams.Streams.{some_by}
 use Rattle.record_values.specs.Values.{valued_attr, valued_first, valued_record}
-use Rattle.plan_model.specs.Attributes.{IsValue, IsRewritten, AreRewritten, RewritesValues, SparesAll}
+use Rattle.plan_growth.specs.plan_model.Attributes.{IsValue, IsRewritten, AreRewritten, RewritesValues, SparesAll}
 use Rattle.plan_growth.proofs.Written.{Reads}
 
 -- ---- a value stands in one attribute

@@ -27,17 +27,17 @@ use Rattle.stream_laws.specs.Owners.{initialised_in}
 use Rattle.stream_laws.specs.Places.{AreApart}
 use Rattle.stream_laws.specs.Sharing.{runs_in, stream_at, StreamKey}
 use Rattle.stream_laws.specs.Tables.{table_key}
-use Rattle.tree_laws.specs.Growth.{new_number, new_numbers}
-use Rattle.tree_laws.specs.Steps.{stepped}
+use Rattle.plan_growth.specs.tree_laws.Growth.{new_number, new_numbers}
+use Rattle.plan_growth.specs.tree_laws.Steps.{stepped}
 use Rattle.stream_runs.specs.Runs.{grown}
-use Rattle.record_streams.specs.Placing.{placed_record}
+use Rattle.record_values.specs.record_streams.Placing.{placed_record}
 use Rattle.record_values.specs.Values.{valued_record}
-use Rattle.resized_streams.specs.Resizing.{cluster_bytes, lengthened, unplaced, with_sizes}
+use Rattle.plan_growth.specs.resized_streams.Resizing.{cluster_bytes, lengthened, unplaced, with_sizes}
 use Rattle.plan_bodies.specs.Bodies.{AreBodies, body_in, content_with, NewBody}
-use Rattle.plan_owners.specs.States.{Stands}
-use Rattle.plan_model.specs.Drafts.{GoesOn, gives_runs, IsPut}
-use Rattle.plan_model.specs.Edits.{IsOwnedIn}
-use Rattle.plan_model.specs.Made.{ReadsAs}
+use Rattle.plan_growth.specs.plan_owners.States.{Stands}
+use Rattle.plan_growth.specs.plan_model.Drafts.{GoesOn, gives_runs, IsPut}
+use Rattle.plan_growth.specs.plan_model.Edits.{IsOwnedIn}
+use Rattle.plan_growth.specs.plan_model.Made.{ReadsAs}
 use Rattle.plan_growth.specs.Growing.{MayGive}
 use Rattle.plan_growth.specs.Streams.{IsWritten, marks_streams, MayTake}
 

@@ -7,33 +7,33 @@ use Rattle.std.proofs.lemmas.Bool.{and_from, and_parts, both_ways, cases_Bool, f
 use Rattle.std.proofs.lemmas.List.Folds.{list_all-append}
 use Rattle.host_base.specs.declared.file_ref.FileRef.{FileRef}
 use Rattle.disk_model.specs.Content.{Content, HasSizes}
-use Rattle.record_model.specs.declared.attribute.Attr.{Attr}
-use Rattle.record_model.specs.declared.attribute.OwnForm.{OwnForm}
-use Rattle.record_model.specs.declared.attribute.OwnForm.TheVariants.{Resident, Mapped}
-use Rattle.record_model.specs.declared.runs.Run.{Run}
-use Rattle.record_model.specs.Records.{Record}
-use Rattle.record_model.specs.Constants.{attribute_list, data_type, file_name, index_allocation, index_root, names_index, object_id, reparse_point, standard_information}
-use Rattle.file_tree.specs.declared.link.Link.{Link}
-use Rattle.state_model.specs.declared.geometry.Geometry.{Geometry}
-use Rattle.state_model.specs.declared.stream.Stream.{Stream}
-use Rattle.state_model.specs.Files.{attr_link, form_link, record_links, reference}
-use Rattle.state_model.specs.Indexes.{is_names_root}
-use Rattle.state_model.specs.Loads.{has_fitting_pairs}
-use Rattle.state_model.specs.Streams.{is_attribute_of, with_attribute, sorted_into, attributes_of, attribute_runs, joined, form_stream, form_runs, form_first, stream_of}
-use Rattle.volume_model.specs.Volumes.{Volume}
-use Rattle.volume_model.specs.Indexes.{attr_value, root_value}
-use Rattle.volume_model.specs.Nodes.{first_flags, data_flags}
-use Rattle.volume_model.specs.Owners.{uses, file_runs}
-use Rattle.volume_model.specs.Sizes.{are_joined, fits_volume, keeps_stream}
-use Rattle.volume_state.specs.Journals.{entries_name, limits_name}
-use Rattle.stream_laws.specs.Owners.{initialised_in}
-use Rattle.stream_laws.specs.Sharing.{runs_in}
-use Rattle.stream_laws.proofs.Sharing.{attribute_kind}
-use Rattle.plan_owners.specs.States.{Stands}
-use Rattle.plan_bodies.specs.Bodies.{NewBody, content_with}
-use Rattle.plan_model.specs.Attributes.{IsValue}
-use Rattle.plan_model.specs.Parts.{NonePass, IsOfAnother, ReplacesAttrs}
-use Rattle.plan_model.proofs.Parting.{links_replaced, uses_replaced, types_same, info_same, attributes_same, stream_same, names_same, sizes_replaced}
+use Rattle.plan_growth.specs.record_model.declared.attribute.Attr.{Attr}
+use Rattle.plan_growth.specs.record_model.declared.attribute.OwnForm.{OwnForm}
+use Rattle.plan_growth.specs.record_model.declared.attribute.OwnForm.TheVariants.{Resident, Mapped}
+use Rattle.plan_growth.specs.record_model.declared.runs.Run.{Run}
+use Rattle.plan_growth.specs.record_model.Records.{Record}
+use Rattle.plan_growth.specs.record_model.Constants.{attribute_list, data_type, file_name, index_allocation, index_root, names_index, object_id, reparse_point, standard_information}
+use Rattle.plan_growth.specs.file_tree.declared.link.Link.{Link}
+use Rattle.plan_growth.specs.state_model.declared.geometry.Geometry.{Geometry}
+use Rattle.plan_growth.specs.state_model.declared.stream.Stream.{Stream}
+use Rattle.plan_growth.specs.state_model.Files.{attr_link, form_link, record_links, reference}
+use Rattle.plan_growth.specs.state_model.Indexes.{is_names_root}
+use Rattle.plan_growth.specs.state_model.Loads.{has_fitting_pairs}
+use Rattle.plan_growth.specs.state_model.Streams.{is_attribute_of, with_attribute, sorted_into, attributes_of, attribute_runs, joined, form_stream, form_runs, form_first, stream_of}
+use Rattle.plan_growth.specs.volume_model.Volumes.{Volume}
+use Rattle.plan_growth.specs.volume_model.Indexes.{attr_value, root_value}
+use Rattle.plan_growth.specs.volume_model.Nodes.{first_flags, data_flags}
+use Rattle.plan_growth.specs.volume_model.Owners.{uses, file_runs}
+use Rattle.plan_growth.specs.volume_model.Sizes.{are_joined, fits_volume, keeps_stream}
+use Rattle.plan_growth.specs.volume_state.Journals.{entries_name, limits_name}
+use Rattle.plan_growth.specs.stream_laws.Owners.{initialised_in}
+use Rattle.plan_growth.specs.stream_laws.Sharing.{runs_in}
+use Rattle.plan_growth.proofs.stream_laws.Sharing.{attribute_kind}
+use Rattle.plan_growth.specs.plan_owners.States.{Stands}
+use Rattle.plan_growth.specs.plan_bodies.Bodies.{NewBody, content_with}
+use Rattle.plan_growth.specs.plan_model.Attributes.{IsValue}
+use Rattle.plan_growth.specs.plan_model.Parts.{NonePass, IsOfAnother, ReplacesAttrs}
+use Rattle.plan_growth.proofs.plan_model.Parting.{links_replaced, uses_replaced, types_same, info_same, attributes_same, stream_same, names_same, sizes_replaced}
 use Rattle.plan_growth.specs.Trees.{TreeFollows}
 use Rattle.plan_growth.proofs.Placed.{same_or_other}
 use Rattle.plan_growth.proofs.Written.{all_read}

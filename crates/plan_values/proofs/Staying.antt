@@ -12,73 +12,73 @@ use Rattle.disk_model.specs.declared.block.BlockKind.TheVariants.{FileRec, Index
 use Rattle.disk_model.specs.Sectors.{same_block}
 use Rattle.disk_model.specs.Content.{Content, HasSizes}
 use Rattle.disk_model.specs.Writes.{Write}
-use Rattle.record_model.specs.declared.runs.Run.{Run}
-use Rattle.record_model.specs.declared.values.StdInfo.{StdInfo}
-use Rattle.record_model.specs.Records.{Record}
-use Rattle.record_model.specs.Constants.{attribute_list, data_type, index_allocation, bitmap_type, names_index, object_id, reparse_point}
-use Rattle.file_tree.specs.declared.link.Link.{Link}
-use Rattle.file_tree.specs.declared.node.Kind.{Kind}
-use Rattle.file_tree.specs.declared.node.Kind.TheVariants.{Directory, File, Fixed, Opaque, System}
-use Rattle.file_tree.specs.declared.node.Node.{Node}
-use Rattle.file_tree.specs.declared.node.Why.{Why}
-use Rattle.file_tree.specs.Trees.{node_at as node_by_number}
-use Rattle.file_tree.specs.Walks.{first_user_record}
+use Rattle.plan_growth.specs.record_model.declared.runs.Run.{Run}
+use Rattle.plan_growth.specs.record_model.declared.values.StdInfo.{StdInfo}
+use Rattle.plan_growth.specs.record_model.Records.{Record}
+use Rattle.plan_growth.specs.record_model.Constants.{attribute_list, data_type, index_allocation, bitmap_type, names_index, object_id, reparse_point}
+use Rattle.plan_growth.specs.file_tree.declared.link.Link.{Link}
+use Rattle.plan_growth.specs.file_tree.declared.node.Kind.{Kind}
+use Rattle.plan_growth.specs.file_tree.declared.node.Kind.TheVariants.{Directory, File, Fixed, Opaque, System}
+use Rattle.plan_growth.specs.file_tree.declared.node.Node.{Node}
+use Rattle.plan_growth.specs.file_tree.declared.node.Why.{Why}
+use Rattle.plan_growth.specs.file_tree.Trees.{node_at as node_by_number}
+use Rattle.plan_growth.specs.file_tree.Walks.{first_user_record}
 use Rattle.bit_set.specs.Bits.{bit}
-use Rattle.index_model.specs.Indexes.{Place}
-use Rattle.state_model.specs.declared.geometry.Geometry.{Geometry}
-use Rattle.state_model.specs.declared.stream.Stream.{Stream}
-use Rattle.state_model.specs.declared.stream.Stream.TheVariants.{Held, Placed}
-use Rattle.state_model.specs.Files.{file_at, reference, file_links, links_at, record_links, is_base_record, is_directory_record, has_type, info_of, is_encrypted, is_compressed, is_sparse, why_by}
-use Rattle.state_model.specs.Loads.{Slot, Used, table_slot, table_in, data_stream, has_cut_index_block}
-use Rattle.state_model.specs.Rules.{implies, at_file, is_directory_with, keeps_names, keeps_1, keeps_2, keeps_8}
-use Rattle.state_model.specs.Streams.{attributes_of, stream_of, block_at}
-use Rattle.state_model.specs.Trees.{is_system, is_nameless}
-use Rattle.volume_model.specs.Volumes.{Volume, count_of, file_in, files_by_number, bytes_or, size_or, is_in_use, file_stream, record_bits, cluster_bits, table_file, mirror_file, bitmap_file, upcase_file, upper_of}
-use Rattle.volume_model.specs.Indexes.{void_block, root_value, index_place, index_links, index_stream, stream_blocks, links_below, lists_names, keeps_index}
-use Rattle.volume_model.specs.Nodes.{valid_or, clusters_or, data_flags, first_flags, has_sparse_run, sparse_if, why_not, is_unread, is_unchanged, kind_in, shows_data, data_shown, node_with, node_by, some_node, node_at, free_clusters}
-use Rattle.volume_model.specs.Owners.{file_runs, volume_runs, uses, keeps_cluster_bit, keeps_record_bit}
-use Rattle.volume_model.specs.Sizes.{keeps_stream, is_whole_file, is_hole, has_hole, begun, is_torn_at, has_torn, stream_has_torn, is_initialised, keeps_streams, keeps_sizes}
-use Rattle.volume_state.specs.Journals.{entries_name, limits_name, entries_flags, file_or_none, journal_file, journal_of_streams, journal_of_file, journal_of, fault_of, some_journal}
-use Rattle.volume_state.specs.Rules.{broken_1, broken_3, broken_6, broken_9}
-use Rattle.volume_state.specs.Trees.{tree_with, tree_of, volume_journal}
-use Rattle.state_model.specs.Rules.{first_failing}
-use Rattle.stream_laws.specs.Leaving.{LiesFree}
-use Rattle.stream_laws.specs.Owners.{stream_kind, initialised_in, Owns}
-use Rattle.stream_laws.specs.Replacing.{FileEdit, OneFileDiffers, with_edits}
-use Rattle.stream_laws.specs.Rewrites.{StandsAlone, is_edited}
-use Rattle.stream_laws.specs.Sharing.{StreamKey, stream_at, runs_in}
-use Rattle.stream_laws.proofs.Editing.{length-with_edits, other_file, edited_files}
-use Rattle.stream_laws.proofs.Framing.{same_links, same_file}
-use Rattle.stream_laws.proofs.Loading.{same_record_bits}
-use Rattle.stream_laws.proofs.Placing.{lies}
-use Rattle.stream_laws.proofs.Replacing.{clusters_replaced}
-use Rattle.stream_laws.proofs.Tabling.{inside_list, no_list_stream}
-use Rattle.tree_laws.specs.Changed.{TouchesFiles, KeepsTouched}
-use Rattle.tree_laws.specs.Contents.{AgreeBut}
-use Rattle.tree_laws.specs.Keeping.{KeepsNames, KeepsDirectory}
-use Rattle.tree_laws.specs.Leaves.{names_there}
-use Rattle.tree_laws.specs.Parts.{journal_number}
-use Rattle.tree_laws.specs.Planned.{IsInStream, IsInRecord, WritesWithin, SparesOthers}
-use Rattle.tree_laws.proofs.Agreeing.{same_upper, kept_sizes, same_journal, same_spares}
-use Rattle.tree_laws.proofs.Ascending.{all_by}
-use Rattle.tree_laws.proofs.Changing.{all_keep}
-use Rattle.tree_laws.proofs.Climbing.{system_everywhere}
-use Rattle.tree_laws.proofs.Keeping.{rules_of, passes_below}
-use Rattle.tree_laws.proofs.Naming.{this_or_other, names_everywhere, file_elsewhere, links_kept}
-use Rattle.tree_laws.proofs.Owning.{same_5, same_6}
-use Rattle.tree_laws.proofs.Parting.{record_bits_stay, cluster_bits_stay, spare_stay, room_stays, upper_stays, number_stays}
-use Rattle.tree_laws.proofs.Planning.{planned_agree, same_index_at, same_shown_at}
-use Rattle.tree_laws.proofs.Ruling.{same_listed, same_name_in, same_count, keeps_both, rule_7}
-use Rattle.plan_owners.specs.States.{Stands}
-use Rattle.plan_owners.proofs.Standing.{some_file, as_file, rule_4_at}
-use Rattle.plan_bodies.specs.Bodies.{NewBody, whole_write, writes_in, content_with}
-use Rattle.plan_model.specs.Drafts.{KeepsExtents, GoesOn}
-use Rattle.plan_model.specs.Edits.{IsOwnedIn, WritesFiles, LeadsTo}
-use Rattle.plan_model.specs.Informed.{with_record, with_info, InfoDiffers}
-use Rattle.plan_model.proofs.Informing.{slot_in_use, marked_in_use, implied}
-use Rattle.plan_model.proofs.OneRecord.{by_test, sizes_from, OwnRecord, own_record, slot_begins, slot_put, uncut, file_slot}
-use Rattle.plan_model.proofs.Quiet.{record_owned, quiet_goes_on}
-use Rattle.plan_model.proofs.Stepping.{written_within, files_edited, tree_nodes}
+use Rattle.plan_growth.specs.index_model.Indexes.{Place}
+use Rattle.plan_growth.specs.state_model.declared.geometry.Geometry.{Geometry}
+use Rattle.plan_growth.specs.state_model.declared.stream.Stream.{Stream}
+use Rattle.plan_growth.specs.state_model.declared.stream.Stream.TheVariants.{Held, Placed}
+use Rattle.plan_growth.specs.state_model.Files.{file_at, reference, file_links, links_at, record_links, is_base_record, is_directory_record, has_type, info_of, is_encrypted, is_compressed, is_sparse, why_by}
+use Rattle.plan_growth.specs.state_model.Loads.{Slot, Used, table_slot, table_in, data_stream, has_cut_index_block}
+use Rattle.plan_growth.specs.state_model.Rules.{implies, at_file, is_directory_with, keeps_names, keeps_1, keeps_2, keeps_8}
+use Rattle.plan_growth.specs.state_model.Streams.{attributes_of, stream_of, block_at}
+use Rattle.plan_growth.specs.state_model.Trees.{is_system, is_nameless}
+use Rattle.plan_growth.specs.volume_model.Volumes.{Volume, count_of, file_in, files_by_number, bytes_or, size_or, is_in_use, file_stream, record_bits, cluster_bits, table_file, mirror_file, bitmap_file, upcase_file, upper_of}
+use Rattle.plan_growth.specs.volume_model.Indexes.{void_block, root_value, index_place, index_links, index_stream, stream_blocks, links_below, lists_names, keeps_index}
+use Rattle.plan_growth.specs.volume_model.Nodes.{valid_or, clusters_or, data_flags, first_flags, has_sparse_run, sparse_if, why_not, is_unread, is_unchanged, kind_in, shows_data, data_shown, node_with, node_by, some_node, node_at, free_clusters}
+use Rattle.plan_growth.specs.volume_model.Owners.{file_runs, volume_runs, uses, keeps_cluster_bit, keeps_record_bit}
+use Rattle.plan_growth.specs.volume_model.Sizes.{keeps_stream, is_whole_file, is_hole, has_hole, begun, is_torn_at, has_torn, stream_has_torn, is_initialised, keeps_streams, keeps_sizes}
+use Rattle.plan_growth.specs.volume_state.Journals.{entries_name, limits_name, entries_flags, file_or_none, journal_file, journal_of_streams, journal_of_file, journal_of, fault_of, some_journal}
+use Rattle.plan_growth.specs.volume_state.Rules.{broken_1, broken_3, broken_6, broken_9}
+use Rattle.plan_growth.specs.volume_state.Trees.{tree_with, tree_of, volume_journal}
+use Rattle.plan_growth.specs.state_model.Rules.{first_failing}
+use Rattle.plan_growth.specs.stream_laws.Leaving.{LiesFree}
+use Rattle.plan_growth.specs.stream_laws.Owners.{stream_kind, initialised_in, Owns}
+use Rattle.plan_growth.specs.stream_laws.Replacing.{FileEdit, OneFileDiffers, with_edits}
+use Rattle.plan_growth.specs.stream_laws.Rewrites.{StandsAlone, is_edited}
+use Rattle.plan_growth.specs.stream_laws.Sharing.{StreamKey, stream_at, runs_in}
+use Rattle.plan_growth.proofs.stream_laws.Editing.{length-with_edits, other_file, edited_files}
+use Rattle.plan_growth.proofs.stream_laws.Framing.{same_links, same_file}
+use Rattle.plan_growth.proofs.stream_laws.Loading.{same_record_bits}
+use Rattle.plan_growth.proofs.stream_laws.Placing.{lies}
+use Rattle.plan_growth.proofs.stream_laws.Replacing.{clusters_replaced}
+use Rattle.plan_growth.proofs.stream_laws.Tabling.{inside_list, no_list_stream}
+use Rattle.plan_growth.specs.tree_laws.Changed.{TouchesFiles, KeepsTouched}
+use Rattle.plan_growth.specs.tree_laws.Contents.{AgreeBut}
+use Rattle.plan_growth.specs.tree_laws.Keeping.{KeepsNames, KeepsDirectory}
+use Rattle.plan_growth.specs.tree_laws.Leaves.{names_there}
+use Rattle.plan_growth.specs.tree_laws.Parts.{journal_number}
+use Rattle.plan_growth.specs.tree_laws.Planned.{IsInStream, IsInRecord, WritesWithin, SparesOthers}
+use Rattle.plan_growth.proofs.tree_laws.Agreeing.{same_upper, kept_sizes, same_journal, same_spares}
+use Rattle.plan_growth.proofs.tree_laws.Ascending.{all_by}
+use Rattle.plan_growth.proofs.tree_laws.Changing.{all_keep}
+use Rattle.plan_growth.proofs.tree_laws.Climbing.{system_everywhere}
+use Rattle.plan_growth.proofs.tree_laws.Keeping.{rules_of, passes_below}
+use Rattle.plan_growth.proofs.tree_laws.Naming.{this_or_other, names_everywhere, file_elsewhere, links_kept}
+use Rattle.plan_growth.proofs.tree_laws.Owning.{same_5, same_6}
+use Rattle.plan_growth.proofs.tree_laws.Parting.{record_bits_stay, cluster_bits_stay, spare_stay, room_stays, upper_stays, number_stays}
+use Rattle.plan_growth.proofs.tree_laws.Planning.{planned_agree, same_index_at, same_shown_at}
+use Rattle.plan_growth.proofs.tree_laws.Ruling.{same_listed, same_name_in, same_count, keeps_both, rule_7}
+use Rattle.plan_growth.specs.plan_owners.States.{Stands}
+use Rattle.plan_growth.proofs.plan_owners.Standing.{some_file, as_file, rule_4_at}
+use Rattle.plan_growth.specs.plan_bodies.Bodies.{NewBody, whole_write, writes_in, content_with}
+use Rattle.plan_growth.specs.plan_model.Drafts.{KeepsExtents, GoesOn}
+use Rattle.plan_growth.specs.plan_model.Edits.{IsOwnedIn, WritesFiles, LeadsTo}
+use Rattle.plan_growth.specs.plan_model.Informed.{with_record, with_info, InfoDiffers}
+use Rattle.plan_growth.proofs.plan_model.Informing.{slot_in_use, marked_in_use, implied}
+use Rattle.plan_growth.proofs.plan_model.OneRecord.{by_test, sizes_from, OwnRecord, own_record, slot_begins, slot_put, uncut, file_slot}
+use Rattle.plan_growth.proofs.plan_model.Quiet.{record_owned, quiet_goes_on}
+use Rattle.plan_growth.proofs.plan_model.Stepping.{written_within, files_edited, tree_nodes}
 use Rattle.plan_growth.specs.Streams.{marks_streams}
 use Rattle.plan_growth.specs.Trees.{with_data, TreeFollows}
 use Rattle.plan_growth.proofs.Resizing.{not_marks, not_marked, not_named, no_system_shown, void_apart, not_allocation, mapped}

@@ -4,30 +4,30 @@ use Rattle.std.specs.List.{list_all}
 use Rattle.std.proofs.lemmas.Bool.{or_cases, and_from, and_parts, eqb-true, false_from_ne_true}
 use Rattle.disk_model.specs.Content.{Content, HasSizes}
 use Rattle.disk_model.specs.declared.block.BlockKind.TheVariants.{FileRec}
-use Rattle.record_model.specs.declared.attribute.Attr.{Attr}
-use Rattle.record_model.specs.declared.attribute.OwnForm.{OwnForm}
-use Rattle.record_model.specs.declared.attribute.OwnForm.TheVariants.{Resident, Mapped}
-use Rattle.record_model.specs.declared.runs.Run.{Run}
-use Rattle.record_model.specs.declared.values.StdInfo.{StdInfo}
-use Rattle.record_model.specs.Records.{Record}
-use Rattle.record_model.specs.Constants.{attribute_list, data_type, file_name, index_allocation, index_root, names_index, object_id, reparse_point, standard_information}
-use Rattle.state_model.specs.declared.geometry.Geometry.{Geometry}
-use Rattle.state_model.specs.Files.{info_of}
-use Rattle.state_model.specs.Indexes.{is_names_root}
-use Rattle.state_model.specs.Loads.{form_fits, has_fitting_pairs}
-use Rattle.state_model.specs.Streams.{is_attribute_of, block_at}
-use Rattle.volume_model.specs.Volumes.{Volume}
-use Rattle.volume_model.specs.Nodes.{first_flags}
-use Rattle.volume_model.specs.Owners.{uses}
-use Rattle.volume_state.specs.Journals.{entries_name, limits_name}
-use Rattle.volume_state.specs.Trees.{tree_of}
-use Rattle.stream_laws.proofs.Sharing.{attribute_kind}
-use Rattle.plan_owners.specs.States.{Stands}
-use Rattle.plan_bodies.specs.Bodies.{NewBody, content_with}
-use Rattle.plan_model.specs.Attributes.{IsValue, IsRewritten, AreRewritten, RewritesValues, SparesAll}
-use Rattle.plan_model.specs.Informed.{is_info, InfoDiffers, with_record}
-use Rattle.plan_model.proofs.OneRecord.{own_record}
-use Rattle.plan_model.proofs.Rewriting.{same_runs, same_uses, same_types, same_directory, same_sizes, same_attributes, same_stream, same_links, same_names, same_info, same_root, same_initialised}
+use Rattle.plan_growth.specs.record_model.declared.attribute.Attr.{Attr}
+use Rattle.plan_growth.specs.record_model.declared.attribute.OwnForm.{OwnForm}
+use Rattle.plan_growth.specs.record_model.declared.attribute.OwnForm.TheVariants.{Resident, Mapped}
+use Rattle.plan_growth.specs.record_model.declared.runs.Run.{Run}
+use Rattle.plan_growth.specs.record_model.declared.values.StdInfo.{StdInfo}
+use Rattle.plan_growth.specs.record_model.Records.{Record}
+use Rattle.plan_growth.specs.record_model.Constants.{attribute_list, data_type, file_name, index_allocation, index_root, names_index, object_id, reparse_point, standard_information}
+use Rattle.plan_growth.specs.state_model.declared.geometry.Geometry.{Geometry}
+use Rattle.plan_growth.specs.state_model.Files.{info_of}
+use Rattle.plan_growth.specs.state_model.Indexes.{is_names_root}
+use Rattle.plan_growth.specs.state_model.Loads.{form_fits, has_fitting_pairs}
+use Rattle.plan_growth.specs.state_model.Streams.{is_attribute_of, block_at}
+use Rattle.plan_growth.specs.volume_model.Volumes.{Volume}
+use Rattle.plan_growth.specs.volume_model.Nodes.{first_flags}
+use Rattle.plan_growth.specs.volume_model.Owners.{uses}
+use Rattle.plan_growth.specs.volume_state.Journals.{entries_name, limits_name}
+use Rattle.plan_growth.specs.volume_state.Trees.{tree_of}
+use Rattle.plan_growth.proofs.stream_laws.Sharing.{attribute_kind}
+use Rattle.plan_growth.specs.plan_owners.States.{Stands}
+use Rattle.plan_growth.specs.plan_bodies.Bodies.{NewBody, content_with}
+use Rattle.plan_growth.specs.plan_model.Attributes.{IsValue, IsRewritten, AreRewritten, RewritesValues, SparesAll}
+use Rattle.plan_growth.specs.plan_model.Informed.{is_info, InfoDiffers, with_record}
+use Rattle.plan_growth.proofs.plan_model.OneRecord.{own_record}
+use Rattle.plan_growth.proofs.plan_model.Rewriting.{same_runs, same_uses, same_types, same_directory, same_sizes, same_attributes, same_stream, same_links, same_names, same_info, same_root, same_initialised}
 use Rattle.plan_growth.specs.Trees.{TreeFollows}
 use Rattle.plan_growth.proofs.Resizing.{slot_open, used_pairs}
 use Rattle.plan_growth.proofs.Written.{all_read}

@@ -1,3 +1,21 @@
+pub use Rattle.plan_growth.specs as plan_growth
+pub use Rattle.plan_growth.specs.index_change
+pub use Rattle.plan_growth.specs.index_model
+pub use Rattle.plan_growth.specs.index_tree
+pub use Rattle.plan_growth.specs.plan_bodies
+pub use Rattle.plan_growth.specs.plan_model
+pub use Rattle.plan_growth.specs.plan_owners
+pub use Rattle.plan_growth.specs.record_model
+pub use Rattle.plan_growth.specs.record_streams
+pub use Rattle.plan_growth.specs.record_writer
+pub use Rattle.plan_growth.specs.resized_streams
+pub use Rattle.plan_growth.specs.space_model
+pub use Rattle.plan_growth.specs.state_model
+pub use Rattle.plan_growth.specs.stream_laws
+pub use Rattle.plan_growth.specs.stream_runs
+pub use Rattle.plan_growth.specs.tree_laws
+pub use Rattle.plan_growth.specs.volume_model
+pub use Rattle.plan_growth.specs.volume_state
 pub mod Trees
 pub mod Values
 pub mod Made

@@ -2,21 +2,21 @@
 use Rattle.std.specs.Prelude.{◌≡◌, ℕ, true, false, List, [], ◌∷◌, Option, Some, None}
 use Rattle.disk_model.specs.declared.block.BlockKind.{BlockKind}
 use Rattle.disk_model.specs.Content.{Content, HasSizes}
-use Rattle.record_model.specs.declared.attribute.Attr.{Attr}
-use Rattle.record_model.specs.Constants.{data_type}
-use Rattle.record_model.specs.Records.{Record}
+use Rattle.plan_growth.specs.record_model.declared.attribute.Attr.{Attr}
+use Rattle.plan_growth.specs.record_model.Constants.{data_type}
+use Rattle.plan_growth.specs.record_model.Records.{Record}
 use Rattle.bit_set.specs.Bits.{bit}
-use Rattle.state_model.specs.declared.geometry.Geometry.{Geometry}
-use Rattle.state_model.specs.Streams.{stream_of}
-use Rattle.volume_model.specs.Volumes.{Volume, cluster_bits}
-use Rattle.stream_laws.specs.Rewrites.{is_edited}
-use Rattle.plan_owners.specs.States.{Stands}
-use Rattle.plan_bodies.specs.Bodies.{NewBody, content_with}
-use Rattle.plan_model.specs.Attributes.{IsValue}
-use Rattle.plan_model.specs.Drafts.{GoesOn}
-use Rattle.plan_model.specs.Edits.{LeadsTo}
-use Rattle.plan_model.specs.Informed.{with_record}
-use Rattle.plan_model.specs.Parts.{ReplacesAttrs}
+use Rattle.plan_growth.specs.state_model.declared.geometry.Geometry.{Geometry}
+use Rattle.plan_growth.specs.state_model.Streams.{stream_of}
+use Rattle.plan_growth.specs.volume_model.Volumes.{Volume, cluster_bits}
+use Rattle.plan_growth.specs.stream_laws.Rewrites.{is_edited}
+use Rattle.plan_growth.specs.plan_owners.States.{Stands}
+use Rattle.plan_growth.specs.plan_bodies.Bodies.{NewBody, content_with}
+use Rattle.plan_growth.specs.plan_model.Attributes.{IsValue}
+use Rattle.plan_growth.specs.plan_model.Drafts.{GoesOn}
+use Rattle.plan_growth.specs.plan_model.Edits.{LeadsTo}
+use Rattle.plan_growth.specs.plan_model.Informed.{with_record}
+use Rattle.plan_growth.specs.plan_model.Parts.{ReplacesAttrs}
 use Rattle.plan_growth.specs.Trees.{TreeFollows}
 use Rattle.plan_values.specs.Trees.{FileFollows}
 use Rattle.plan_values.specs.Values.{is_data, IsOwnFile, PutsWritten}

@@ -2,16 +2,16 @@
 use Rattle.std.specs.Prelude.{◌≡◌, ◌≢◌, ℕ, List, Option}
 use Rattle.std.specs.Option.{option_map}
 use Rattle.disk_model.specs.Content.{Content}
-use Rattle.record_model.specs.declared.values.StdInfo.{StdInfo}
-use Rattle.record_model.specs.Records.{Record}
-use Rattle.file_tree.specs.declared.tree.Tree.{Tree}
-use Rattle.file_tree.specs.Trees.{node_at as node_by_number}
-use Rattle.state_model.specs.declared.stream.Stream.{Stream}
-use Rattle.state_model.specs.Files.{info_of}
-use Rattle.volume_model.specs.Volumes.{Volume, bytes_or}
-use Rattle.volume_model.specs.Nodes.{kind_in, data_shown}
-use Rattle.volume_state.specs.Trees.{tree_of}
-use Rattle.plan_model.specs.Informed.{with_record, with_info}
+use Rattle.plan_growth.specs.record_model.declared.values.StdInfo.{StdInfo}
+use Rattle.plan_growth.specs.record_model.Records.{Record}
+use Rattle.plan_growth.specs.file_tree.declared.tree.Tree.{Tree}
+use Rattle.plan_growth.specs.file_tree.Trees.{node_at as node_by_number}
+use Rattle.plan_growth.specs.state_model.declared.stream.Stream.{Stream}
+use Rattle.plan_growth.specs.state_model.Files.{info_of}
+use Rattle.plan_growth.specs.volume_model.Volumes.{Volume, bytes_or}
+use Rattle.plan_growth.specs.volume_model.Nodes.{kind_in, data_shown}
+use Rattle.plan_growth.specs.volume_state.Trees.{tree_of}
+use Rattle.plan_growth.specs.plan_model.Informed.{with_record, with_info}
 use Rattle.plan_growth.specs.Trees.{with_data}
 
 -- the trees are the same, but for the standard information and the data of this node

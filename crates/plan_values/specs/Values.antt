@@ -2,23 +2,23 @@
 use Rattle.std.specs.Prelude.{◌≡◌, ℕ, ◌||◌, Bool, false, List, [], ◌∷◌, Option, Some}
 use Rattle.disk_model.specs.declared.block.BlockKind.{BlockKind}
 use Rattle.disk_model.specs.Content.{Content, HasSizes}
-use Rattle.record_model.specs.declared.attribute.Attr.{Attr}
-use Rattle.record_model.specs.Constants.{attribute_list, data_type}
-use Rattle.record_model.specs.Records.{Record}
+use Rattle.plan_growth.specs.record_model.declared.attribute.Attr.{Attr}
+use Rattle.plan_growth.specs.record_model.Constants.{attribute_list, data_type}
+use Rattle.plan_growth.specs.record_model.Records.{Record}
 use Rattle.bit_set.specs.Bits.{bit}
-use Rattle.state_model.specs.declared.geometry.Geometry.{Geometry}
-use Rattle.state_model.specs.Files.{has_type, info_of}
-use Rattle.state_model.specs.Streams.{is_attribute_of}
-use Rattle.volume_model.specs.Volumes.{Volume, file_in, cluster_bits}
-use Rattle.volume_model.specs.Nodes.{data_flags}
-use Rattle.volume_state.specs.Trees.{tree_of}
-use Rattle.stream_laws.specs.Rewrites.{is_edited}
-use Rattle.plan_owners.specs.States.{Stands}
-use Rattle.plan_bodies.specs.Bodies.{NewBody, content_with}
-use Rattle.plan_model.specs.Attributes.{RewritesValues}
-use Rattle.plan_model.specs.Drafts.{GoesOn}
-use Rattle.plan_model.specs.Edits.{LeadsTo}
-use Rattle.plan_model.specs.Informed.{is_info, IsApart, InfoDiffers, with_record}
+use Rattle.plan_growth.specs.state_model.declared.geometry.Geometry.{Geometry}
+use Rattle.plan_growth.specs.state_model.Files.{has_type, info_of}
+use Rattle.plan_growth.specs.state_model.Streams.{is_attribute_of}
+use Rattle.plan_growth.specs.volume_model.Volumes.{Volume, file_in, cluster_bits}
+use Rattle.plan_growth.specs.volume_model.Nodes.{data_flags}
+use Rattle.plan_growth.specs.volume_state.Trees.{tree_of}
+use Rattle.plan_growth.specs.stream_laws.Rewrites.{is_edited}
+use Rattle.plan_growth.specs.plan_owners.States.{Stands}
+use Rattle.plan_growth.specs.plan_bodies.Bodies.{NewBody, content_with}
+use Rattle.plan_growth.specs.plan_model.Attributes.{RewritesValues}
+use Rattle.plan_growth.specs.plan_model.Drafts.{GoesOn}
+use Rattle.plan_growth.specs.plan_model.Edits.{LeadsTo}
+use Rattle.plan_growth.specs.plan_model.Informed.{is_info, IsApart, InfoDiffers, with_record}
 use Rattle.plan_growth.specs.Streams.{IsWritten, marks_streams, PutsFile}
 use Rattle.plan_growth.specs.Trees.{TreeFollows}
 use Rattle.plan_values.specs.Trees.{FileFollows}

@@ -8,3 +8,7 @@
 mod laws;
 
 pub use laws::{data_made, value_written};
+pub use plan_growth::{
+    DirPlace, DirPlan, FileRec, FixedValue, NodesPlan, lay_out, push_copies, push_copy, sized,
+    stream_of,
+};

@@ -2,9 +2,8 @@
 ghost use Rattle.std.specs.Prelude.{IfOk, IfSome};
 ghost use Rattle.record_streams.specs.Fitting.{FitsButRoom};
 
-use draft_records::spelled_fits_but_room;
 use host_base::{Bytes, FileRef};
-use planned_streams::{Bitmap, FileRec, Stream, bitmap_of, table_of};
+use planned_streams::{Bitmap, FileRec, Stream, bitmap_of, spelled_fits_but_room, table_of};
 use record_model::{Attr, BITMAP_TYPE, DATA, Head, OwnForm, RecHead, Sizes};
 use record_writer::WrittenRecord;
 use std::alloc::Global;

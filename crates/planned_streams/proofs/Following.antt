@@ -2,7 +2,7 @@
 use Rattle.std.proofs.Common.{ℕ, ◌+◌, ◌<◌, ◌≤◌, List, length, get_or, drop, sym, subst}
 use Rattle.record_model.specs.declared.runs.Run.{Run}
 use Rattle.record_model.specs.Pairs.{Follow, IsNext}
-use Rattle.stream_runs.proofs.Looping.{next_is, none_left}
+use Rattle.draft_growth.proofs.stream_runs.Looping.{next_is, none_left}
 
 pub next_there : (runs : List Run) (i n : ℕ) (d : Run) → i < length runs → Follow 0 n (drop i runs) → IsNext 0 n (get_or runs i d) × Follow 0 (n + (get_or runs i d).len) (drop (i + 1) runs)
 next_there runs i n d lt follow = subst (Follow 0 n) (next_is runs i d lt) follow

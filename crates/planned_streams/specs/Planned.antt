@@ -3,11 +3,11 @@ use Rattle.std.specs.Prelude.{◌≡◌, ℕ, IfSome, MatchOption, [], Option, S
 use Rattle.std.specs.Option.{option_map}
 use Rattle.record_model.specs.Constants.{data_type, bitmap_type}
 use Rattle.record_model.specs.Records.{Record}
-use Rattle.state_model.specs.declared.stream.Extents.{Extents}
-use Rattle.state_model.specs.declared.stream.Stream.{Stream}
-use Rattle.state_model.specs.declared.stream.Stream.TheVariants.{Held, Placed}
-use Rattle.state_model.specs.Streams.{stream_of}
-use Rattle.draft_bitmaps.specs.declared.bitmap.Bitmap.{Bitmap}
+use Rattle.draft_growth.specs.state_model.declared.stream.Extents.{Extents}
+use Rattle.draft_growth.specs.state_model.declared.stream.Stream.{Stream}
+use Rattle.draft_growth.specs.state_model.declared.stream.Stream.TheVariants.{Held, Placed}
+use Rattle.draft_growth.specs.state_model.Streams.{stream_of}
+use Rattle.draft_growth.specs.draft_bitmaps.declared.bitmap.Bitmap.{Bitmap}
 use Rattle.draft_growth.specs.declared.table.Table.{Table}
 
 -- What is there is answered where it may be changed, and nothing where it isn't there or may not.

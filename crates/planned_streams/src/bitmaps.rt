@@ -1,16 +1,13 @@
 //! Bitmaps that a plan may change.
 ghost use Rattle.std.specs.Prelude.{◌≡◌, ◌↔◌, ◌<◌, ◌≤◌, ◌^◌, true, IfOk};
-ghost use Rattle.record_streams.specs.Fitting.{FitsButRoom, IsPlaceable};
-ghost use Rattle.draft_bitmaps.specs.Bitmaps.{bit_count, IsBitmap, IsShortPlaced, IsShortStream};
+ghost use Rattle.draft_growth.specs.record_streams.Fitting.{FitsButRoom, IsPlaceable};
+ghost use Rattle.draft_growth.specs.draft_bitmaps.Bitmaps.{bit_count, IsBitmap, IsShortPlaced, IsShortStream};
 ghost use Rattle.planned_streams.specs.Planned.{bitmap_in, IsWhere};
 
 use crate::spelling::have_spelling;
-use draft_bitmaps::Bitmap;
-use file_record::FileRec;
+use draft_growth::{Bitmap, Extents, FileRec, Stream, stream_of};
 use host_base::Memory;
-use state_model::{Extents, Stream};
 use std::alloc::Global;
-use stream_map::stream_of;
 
 // How many runs a stream may have, and how many bytes a value.
 const FEW: usize = 65_536;

@@ -7,10 +7,9 @@ mod spelling;
 mod tables;
 
 pub use bitmaps::{bitmap_of, has_bits};
-pub use draft_bitmaps::Bitmap;
-pub use draft_growth::Table;
-pub use file_record::FileRec;
+pub use draft_growth::{
+    Bitmap, Draft, Extents, FileRec, GrowthFault, Stream, Table, grow_table, spelled_fits_but_room,
+};
 pub use record_model::Runs;
 pub use spelling::have_spelling;
-pub use state_model::{Extents, Stream};
 pub use tables::{may_grow, table_of};

@@ -1,23 +1,20 @@
 //! A file table that may grow.
 ghost use Rattle.std.specs.Prelude.{◌≡◌, ◌↔◌, ◌<◌, true, IfOk, IfSome};
 ghost use Rattle.record_model.specs.Constants.{data_type};
-ghost use Rattle.record_streams.specs.Fitting.{FitsButRoom};
-ghost use Rattle.stream_runs.specs.Runs.{last_cluster};
-ghost use Rattle.draft_bitmaps.specs.Bitmaps.{IsBitmap};
+ghost use Rattle.draft_growth.specs.record_streams.Fitting.{FitsButRoom};
+ghost use Rattle.draft_growth.specs.stream_runs.Runs.{last_cluster};
+ghost use Rattle.draft_growth.specs.draft_bitmaps.Bitmaps.{IsBitmap};
 ghost use Rattle.draft_growth.specs.Growing.{MayGrow, MayGrowIn, IsTable};
 ghost use Rattle.planned_streams.specs.Planned.{placed_data, table_in, IsWhere};
 
 use crate::bitmaps::bitmap_of;
 use crate::spelling::{CLUSTER_LIMIT, have_spelling};
-use draft_bitmaps::Bitmap;
-use draft_growth::Table;
-use file_record::FileRec;
+use draft_growth::{
+    Bitmap, Extents, FileRec, Stream, Table, last_cluster, stream_of, total_clusters,
+};
 use host_base::Memory;
 use record_model::{BITMAP_TYPE, DATA, Runs};
-use state_model::{Extents, Stream};
 use std::alloc::Global;
-use stream_map::stream_of;
-use stream_runs::{last_cluster, total_clusters};
 
 // A stream that grows has at most so many runs, and at most so many clusters; its sizes are below
 // this one.

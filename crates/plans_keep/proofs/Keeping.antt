@@ -18,10 +18,10 @@ use Rattle.state_model.specs.declared.geometry.Geometry.{Geometry}
 use Rattle.volume_model.specs.Volumes.{Volume}
 use Rattle.stream_laws.specs.Owners.{Owns}
 use Rattle.stream_laws.specs.Sharing.{stream_at, runs_in}
-use Rattle.plan_owners.specs.States.{Stands}
-use Rattle.plan_owners.specs.Agreeing.{IsJudged, log_key}
-use Rattle.state_blocks.specs.Needing.{IsListed, IsNeeded}
-use Rattle.state_blocks.specs.Drafts.{is_changed}
+use Rattle.plan_spares.specs.plan_owners.States.{Stands}
+use Rattle.plan_spares.specs.plan_owners.Agreeing.{IsJudged, log_key}
+use Rattle.plan_spares.specs.state_blocks.Needing.{IsListed, IsNeeded}
+use Rattle.plan_spares.specs.state_blocks.Drafts.{is_changed}
 use Rattle.plan_bodies.specs.Bodies.{NewBody, content_with, body_in, body_or}
 use Rattle.plan_bodies.proofs.Putting.{block_itself, body_put}
 use Rattle.plan_draft.specs.declared.touched.Touched.{Touched}
@@ -33,7 +33,7 @@ use Rattle.plan_draft.proofs.Placing.{rises_head, rises_tail, other_block}
 use Rattle.plan_draft.proofs.Ranges.{spans, length-part}
 use Rattle.plan_draft.proofs.Same.{same_content}
 use Rattle.plan_draft.proofs.Touching.{are_bodies}
-use Rattle.plan_model.specs.Drafts.{IsPut, DraftIn as PlanIn, DraftsGoOn}
+use Rattle.plan_spares.specs.plan_model.Drafts.{IsPut, DraftIn as PlanIn, DraftsGoOn}
 use Rattle.plan_spares.specs.Plans.{HasOwnLists, AreOf, PlanKeeps, PlansSpare}
 use Rattle.plans_keep.specs.Keeping.{AreFinished, TouchesWell, AreAside, AreAllAside, IsSpelled, ChangesKeep}
 

@@ -1,1 +1,2 @@
+pub use Rattle.plan_spares.proofs.state_blocks
 pub mod Keeping

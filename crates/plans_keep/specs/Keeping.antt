@@ -11,16 +11,16 @@ use Rattle.block_view.specs.Changes.{Fits, content_after}
 use Rattle.state_model.specs.declared.geometry.Geometry.{Geometry}
 use Rattle.volume_model.specs.Volumes.{Volume}
 use Rattle.stream_laws.specs.Sharing.{stream_at, runs_in}
-use Rattle.plan_owners.specs.States.{Stands}
-use Rattle.plan_owners.specs.Agreeing.{IsJudged, log_key}
-use Rattle.state_blocks.specs.Needing.{IsListed, IsNeeded}
-use Rattle.state_blocks.specs.Drafts.{DraftIn}
+use Rattle.plan_spares.specs.plan_owners.States.{Stands}
+use Rattle.plan_spares.specs.plan_owners.Agreeing.{IsJudged, log_key}
+use Rattle.plan_spares.specs.state_blocks.Needing.{IsListed, IsNeeded}
+use Rattle.plan_spares.specs.state_blocks.Drafts.{DraftIn}
 use Rattle.plan_bodies.specs.Bodies.{NewBody, content_with}
 use Rattle.plan_draft.specs.declared.touched.Touched.{Touched}
 use Rattle.plan_draft.specs.Touching.{keys_of, rises, bodies_of, IsWhole, IsOldOf}
 use Rattle.plan_draft.specs.Finishing.{changes_of}
 use Rattle.plan_draft.specs.Same.{PutSame}
-use Rattle.plan_model.specs.Drafts.{DraftIn as PlanIn}
+use Rattle.plan_spares.specs.plan_model.Drafts.{DraftIn as PlanIn}
 use Rattle.plan_spares.specs.Plans.{HasOwnLists}
 
 -- the changes are those of a draft, which keeps whole bodies in the order of their blocks, and the content's as the old ones

@@ -1,8 +1,7 @@
 //! The laws of these definitions.
 ghost use Rattle.plans_keep.specs.Keeping.{PlansKeep};
 
-use plan_model::drafts_go_on;
-use plan_spares::plans_spare;
+use plan_spares::{drafts_go_on, plans_spare};
 
 /// Law: the changes of a draft that puts the bodies of a plan, each with a spelling, and keeps the
 /// log where it lies, lead from the state before to the one behind as a volume asks: their blocks

@@ -18,29 +18,29 @@ use Rattle.log_model.specs.Logs.{may_begin}
 use Rattle.block_view.specs.Changes.{Fits, content_after}
 use Rattle.state_model.specs.Loads.{boot_block}
 use Rattle.volume_model.specs.Volumes.{Volume, upper_of}
-use Rattle.volume_state.specs.Trees.{tree_of}
-use Rattle.map_change.specs.Parts.{MapParts}
+use Rattle.spares_at_mount.specs.volume_state.Trees.{tree_of}
+use Rattle.spares_at_mount.specs.map_change.Parts.{MapParts}
 use Rattle.tree_model.specs.declared.script.Op.{Op}
-use Rattle.plan_owners.specs.States.{Stands}
-use Rattle.plan_owners.specs.Kinds.{cluster_of}
-use Rattle.state_blocks.specs.Drafts.{DraftIn}
+use Rattle.spares_at_mount.specs.plan_owners.States.{Stands}
+use Rattle.spares_at_mount.specs.plan_owners.Kinds.{cluster_of}
+use Rattle.spares_at_mount.specs.state_blocks.Drafts.{DraftIn}
 use Rattle.plan_bodies.specs.Bodies.{content_with}
 use Rattle.plan_draft.specs.declared.touched.Touched.{Touched}
-use Rattle.plan_spares.specs.Plans.{HasOwnLists}
-use Rattle.plans_keep.specs.Keeping.{AreAside, AreAllAside, IsSpelled}
-use Rattle.data_plan.specs.declared.change.DataChange.{DataChange}
-use Rattle.file_puts.specs.declared.streams.VolumeStreams.{VolumeStreams}
+use Rattle.spares_at_mount.specs.plan_spares.Plans.{HasOwnLists}
+use Rattle.writes_keep.specs.plans_keep.Keeping.{AreAside, AreAllAside, IsSpelled}
+use Rattle.writes_keep.specs.data_plan.declared.change.DataChange.{DataChange}
+use Rattle.writes_keep.specs.file_puts.declared.streams.VolumeStreams.{VolumeStreams}
 use Rattle.writes_keep.specs.Writes.{HasWholeSectors, IsOffLog, WriteKeeps, WritesKeep}
-use Rattle.names_stay.specs.Lists.{WritesKeepLists}
-use Rattle.names_stay.specs.Writes.{WritesKeepNames}
-use Rattle.txn_model.specs.Values.{StoreFacts}
-use Rattle.txn_core.specs.Views.{present_on}
+use Rattle.writes_keep.specs.names_stay.Lists.{WritesKeepLists}
+use Rattle.writes_keep.specs.names_stay.Writes.{WritesKeepNames}
+use Rattle.spares_at_mount.specs.txn_model.Values.{StoreFacts}
+use Rattle.spares_at_mount.specs.txn_core.Views.{present_on}
 use Rattle.spares_at_mount.specs.Mounts.{BlocksOffLog}
-use Rattle.image_open.specs.Volumes.{boot_place}
-use Rattle.state_store.specs.Volumes.{geometry_of, SparesState}
-use Rattle.state_store.specs.Changes.{MayLog, AreBeside, AreApart, IsWritable, AreWritable, LeadsOn}
-use Rattle.volume_mount.specs.Boot.{KeepsBoot}
-use Rattle.volume_mount.specs.Welcome.{IsWelcome}
+use Rattle.spares_at_mount.specs.image_open.Volumes.{boot_place}
+use Rattle.spares_at_mount.specs.state_store.Volumes.{geometry_of, SparesState}
+use Rattle.spares_at_mount.specs.state_store.Changes.{MayLog, AreBeside, AreApart, IsWritable, AreWritable, LeadsOn}
+use Rattle.spares_at_mount.specs.volume_mount.Boot.{KeepsBoot}
+use Rattle.spares_at_mount.specs.volume_mount.Welcome.{IsWelcome}
 use Rattle.plans_lead.specs.Leading.{IsFilePlan, LeadsAsAsked, HasLogOf, PlansLeadOn}
 use Rattle.plans_lead.proofs.Welcoming.{boot_aside, welcome_after}
 

@@ -17,23 +17,23 @@ use Rattle.state_model.specs.Rules.{first_failing}
 use Rattle.state_model.specs.Trees.{all_links}
 use Rattle.volume_model.specs.Volumes.{Volume, files_by_number, count_of, file_in, log_file, upper_of}
 use Rattle.volume_model.specs.Owners.{uses}
-use Rattle.volume_state.specs.Journals.{extend_file, journal_name}
-use Rattle.volume_state.specs.Versions.{volume_info, file_info, volume_file}
+use Rattle.spares_at_mount.specs.volume_state.Journals.{extend_file, journal_name}
+use Rattle.spares_at_mount.specs.volume_state.Versions.{volume_info, file_info, volume_file}
 use Rattle.stream_laws.specs.Sharing.{StreamKey, stream_at, runs_in}
 use Rattle.stream_laws.specs.Tables.{table_key}
-use Rattle.image_open.specs.declared.refusal.Refusal.{Refusal}
-use Rattle.image_open.specs.declared.refusal.Refusal.TheVariants.{Unbuilt}
-use Rattle.image_read.specs.Checks.{judged_version, has_version}
+use Rattle.spares_at_mount.specs.image_open.declared.refusal.Refusal.{Refusal}
+use Rattle.spares_at_mount.specs.image_open.declared.refusal.Refusal.TheVariants.{Unbuilt}
+use Rattle.spares_at_mount.specs.image_read.Checks.{judged_version, has_version}
 use Rattle.plan_bodies.specs.Bodies.{NewBody, content_with}
-use Rattle.plan_edits.specs.Edits.{bitmap_key}
-use Rattle.file_puts.specs.declared.streams.VolumeStreams.{VolumeStreams}
+use Rattle.writes_keep.specs.plan_edits.Edits.{bitmap_key}
+use Rattle.writes_keep.specs.file_puts.declared.streams.VolumeStreams.{VolumeStreams}
 use Rattle.writes_keep.specs.Writes.{IsWrittenIn, IsSetAside, WriteKeeps}
 use Rattle.writes_keep.proofs.Behind.{other_file}
-use Rattle.same_names.specs.Names.{IsNamedAlike, SameNames}
-use Rattle.names_stay.specs.Lists.{lists_in}
-use Rattle.volume_mount.specs.Boot.{boot_key, KeepsBoot}
-use Rattle.volume_mount.specs.Mounts.{has_no_journal, has_single_list, unless_failing, has_single_lists}
-use Rattle.volume_mount.specs.Welcome.{IsWelcome}
+use Rattle.spares_at_mount.specs.same_names.Names.{IsNamedAlike, SameNames}
+use Rattle.writes_keep.specs.names_stay.Lists.{lists_in}
+use Rattle.spares_at_mount.specs.volume_mount.Boot.{boot_key, KeepsBoot}
+use Rattle.spares_at_mount.specs.volume_mount.Mounts.{has_no_journal, has_single_list, unless_failing, has_single_lists}
+use Rattle.spares_at_mount.specs.volume_mount.Welcome.{IsWelcome}
 
 links_alike : (n : ℕ) (o p : Option Record) → IsNamedAlike n o p → file_links n p ≡ file_links n o
 links_alike n None None alike = refl

@@ -12,28 +12,28 @@ use Rattle.block_view.specs.Changes.{content_after}
 use Rattle.log_reading.specs.Rings.{IsRingPlace}
 use Rattle.state_model.specs.Loads.{boot_block}
 use Rattle.volume_model.specs.Volumes.{Volume, cluster_bits}
-use Rattle.volume_state.specs.Trees.{tree_of}
-use Rattle.volume_mount.specs.Boot.{KeepsBoot}
-use Rattle.volume_mount.specs.Welcome.{IsWelcome}
-use Rattle.map_change.specs.Parts.{MapParts}
+use Rattle.spares_at_mount.specs.volume_state.Trees.{tree_of}
+use Rattle.spares_at_mount.specs.volume_mount.Boot.{KeepsBoot}
+use Rattle.spares_at_mount.specs.volume_mount.Welcome.{IsWelcome}
+use Rattle.spares_at_mount.specs.map_change.Parts.{MapParts}
 use Rattle.stream_laws.specs.Sharing.{StreamKey, stream_at, runs_in}
 use Rattle.tree_model.specs.declared.script.Op.{Op}
-use Rattle.plan_owners.specs.Agreeing.{log_key}
+use Rattle.spares_at_mount.specs.plan_owners.Agreeing.{log_key}
 use Rattle.plan_draft.specs.declared.touched.Touched.{Touched}
-use Rattle.plan_spares.specs.Plans.{HasOwnLists}
-use Rattle.plans_keep.specs.Keeping.{AreFinished}
-use Rattle.data_plan.specs.declared.change.DataChange.{DataChange}
-use Rattle.data_plan.specs.Changes.{growth_of}
-use Rattle.made_data.specs.Made.{record_with_data}
-use Rattle.file_puts.specs.declared.streams.VolumeStreams.{VolumeStreams}
-use Rattle.file_puts.specs.Written.{AreStreamsOf, WritesBy, HasWritten}
+use Rattle.spares_at_mount.specs.plan_spares.Plans.{HasOwnLists}
+use Rattle.writes_keep.specs.plans_keep.Keeping.{AreFinished}
+use Rattle.writes_keep.specs.data_plan.declared.change.DataChange.{DataChange}
+use Rattle.writes_keep.specs.data_plan.Changes.{growth_of}
+use Rattle.writes_keep.specs.made_data.Made.{record_with_data}
+use Rattle.writes_keep.specs.file_puts.declared.streams.VolumeStreams.{VolumeStreams}
+use Rattle.writes_keep.specs.file_puts.Written.{AreStreamsOf, WritesBy, HasWritten}
 use Rattle.writes_keep.specs.Writes.{HasWholeSectors, IsOffLog}
-use Rattle.txn_model.specs.Values.{StoreFacts}
-use Rattle.txn_core.specs.Views.{present_on}
+use Rattle.spares_at_mount.specs.txn_model.Values.{StoreFacts}
+use Rattle.spares_at_mount.specs.txn_core.Views.{present_on}
 use Rattle.spares_at_mount.specs.Mounts.{LiesInLog}
-use Rattle.image_open.specs.Writing.{found_by}
-use Rattle.state_store.specs.Volumes.{geometry_of, IsStateOf, SparesState}
-use Rattle.state_store.specs.Changes.{MayLog, AreApart, LeadsOn}
+use Rattle.spares_at_mount.specs.image_open.Writing.{found_by}
+use Rattle.spares_at_mount.specs.state_store.Volumes.{geometry_of, IsStateOf, SparesState}
+use Rattle.spares_at_mount.specs.state_store.Changes.{MayLog, AreApart, LeadsOn}
 
 -- In a state of which this is the map, and this the table of upper-case units, a draft has put what comes of a file's data, and the operation has changed the tree; the changes are
 -- those of the draft. No attribute list has a part in another record, and no sector by which the state is judged is torn.

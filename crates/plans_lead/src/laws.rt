@@ -1,9 +1,8 @@
 //! The laws of these definitions.
 ghost use Rattle.plans_lead.specs.Leading.{PlansLeadOn};
 
-use names_stay::{writes_keep_lists, writes_keep_names};
 use spares_at_mount::blocks_off_log;
-use writes_keep::writes_keep;
+use writes_keep::{writes_keep, writes_keep_lists, writes_keep_names};
 
 /// Law: a volume takes the changes of a plan that writes or cuts a file. They lead to the next
 /// state, which can be written, in which the files have their names, and then by the same streams

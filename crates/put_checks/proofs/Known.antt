@@ -10,9 +10,9 @@ use Rattle.log_page.specs.declared.places.Extent.{Extent}
 use Rattle.log_page.specs.declared.places.LogPlace.{LogPlace}
 use Rattle.log_reading.specs.LogPages.{sector_in, sector_below, log_sector}
 use Rattle.log_reading.specs.Rings.{IsPageAt, IsRingPlace}
-use Rattle.log_area.specs.Areas.{page_first}
+use Rattle.state_store.specs.log_area.Areas.{page_first}
 use Rattle.store_model.specs.Volumes.{is_free}
-use Rattle.txn_model.specs.Values.{is_own}
+use Rattle.state_store.specs.txn_model.Values.{is_own}
 use Rattle.put_checks.specs.Checks.{meets_run}
 
 -- ---- tests

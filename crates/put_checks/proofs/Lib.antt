@@ -1,2 +1,3 @@
+pub use Rattle.state_store.proofs as state_store
 pub mod Known
 pub mod Rows

@@ -16,7 +16,7 @@ use Rattle.block_view.specs.Changes.{Fits}
 use Rattle.plan_draft.specs.Touching.{kind_place, block_key, rises}
 use Rattle.plan_draft.specs.Finishing.{change_keys}
 use Rattle.store_model.specs.Volumes.{is_free, is_known}
-use Rattle.txn_model.specs.Values.{StoreFacts, own_of, is_own}
+use Rattle.state_store.specs.txn_model.Values.{StoreFacts, own_of, is_own}
 use Rattle.state_store.specs.Changes.{MayLog, AreBeside, AreApart}
 use Rattle.put_checks.specs.Checks.{end_of, meets_run, lies_inside, lies_apart, fits_some, may_be_logged, are_in_row, may_put}
 use Rattle.put_checks.specs.Laws.{ChecksAreEnough, ChecksAreMet}

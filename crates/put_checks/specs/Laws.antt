@@ -5,7 +5,7 @@ use Rattle.disk_model.specs.declared.block.Change.{Change}
 use Rattle.log_reading.specs.Rings.{IsRingPlace}
 use Rattle.plan_draft.specs.Touching.{rises}
 use Rattle.plan_draft.specs.Finishing.{change_keys}
-use Rattle.txn_model.specs.Values.{StoreFacts}
+use Rattle.state_store.specs.txn_model.Values.{StoreFacts}
 use Rattle.state_store.specs.Changes.{MayLog, AreApart}
 use Rattle.put_checks.specs.Checks.{meets_run, may_put}
 

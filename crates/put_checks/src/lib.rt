@@ -10,3 +10,4 @@ mod laws;
 
 pub use checking::may_put;
 pub use laws::{checks_are_enough, checks_are_met};
+pub use state_store::{PutFault, put_changes, turn_store};

@@ -7,8 +7,8 @@ use Rattle.std.proofs.lemmas.Bool.Decides.{nat_tests}
 use Rattle.std.proofs.lemmas.List.{get_or_past, drop_at, length-take-le}
 use Rattle.std.proofs.lemmas.List.Elements.{recursion_from_All}
 use Rattle.std.proofs.lemmas.List.FromFn.{get_or-map-range_with_len}
-use Rattle.host_base.specs.declared.file_ref.FileRef.{FileRef}
-use Rattle.host_base.specs.FileRefs.{packed, unpacked}
+use Rattle.disk_model.specs.host_base.declared.file_ref.FileRef.{FileRef}
+use Rattle.disk_model.specs.host_base.FileRefs.{packed, unpacked}
 use Rattle.utf16_name.specs.Lawful.{IsName}
 use Rattle.utf16_name.specs.Names.{is_bad_unit, fault_of, ok_unless, name_of}
 use Rattle.utf16_name.proofs.Naming.{lawful-of_position, name_of-of_name}

@@ -1,3 +1,6 @@
+pub use Rattle.disk_model.proofs as disk_model
+pub use Rattle.disk_model.proofs.host_base
+pub use Rattle.utf16_name.proofs as utf16_name
 pub mod Answering
 pub mod FlagBits
 pub mod Attributes

@@ -4,7 +4,7 @@ use Rattle.std.specs.List.{concat, AllByRecursion}
 use Rattle.std.proofs.lemmas.Bool.{cases_lt}
 use Rattle.std.proofs.lemmas.List.{get_or_append_left, get_or-append-add, get_or_past, append_assoc}
 use Rattle.std.proofs.lemmas.List.Elements.{All-from_recursion, recursion_from_All}
-use Rattle.host_base.specs.declared.file_ref.FileRef.{FileRef}
+use Rattle.disk_model.specs.host_base.declared.file_ref.FileRef.{FileRef}
 use Rattle.disk_model.specs.Numbers.{field}
 use Rattle.disk_model.specs.Bytes.{AreBytes}
 use Rattle.disk_model.proofs.Fields.{field-lt, AreBytes-drop}

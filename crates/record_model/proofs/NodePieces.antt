@@ -4,7 +4,7 @@ use Rattle.std.specs.Prelude.{◌&&◌, ◌||◌, ◌==◌}
 use Rattle.std.specs.List.{concat}
 use Rattle.std.proofs.lemmas.Bool.{le-ltb, le-leb, leb-true, eq-eqb, eqb-true, and_from, and_parts, false≢true}
 use Rattle.std.proofs.lemmas.List.{length-append, append_assoc, append-nil, take-append-drop, length-take-le, length-drop, take_at, drop_at, drop-append-le, take-append-le}
-use Rattle.host_base.specs.Answers.{◌>>=◌, needs}
+use Rattle.disk_model.specs.host_base.Answers.{◌>>=◌, needs}
 use Rattle.disk_model.specs.Numbers.{field}
 use Rattle.disk_model.specs.Bytes.{part}
 use Rattle.disk_model.proofs.Fields.{field-append, field-take}

@@ -2,7 +2,7 @@
 use Rattle.std.proofs.Common.{◌≡◌, ◌≢◌, ℕ, ℤ, pos, zero, suc, ◌+◌, ◌%◌, ◌^◌, ◌<◌, ◌≤◌, Bool, true, leb, List, [], ◌∷◌, ◌++◌, length, take, drop, Option, Some, None, IfSome, Result, Ok, refl, sym, ap, ◌∙◌, arith, unwrap_or, unsigned_abs}
 use Rattle.std.proofs.lemmas.Bool.{le-leb, lt-ltb, and_from}
 use Rattle.std.proofs.lemmas.List.{take_at, drop_at, drop-drop, length-append}
-use Rattle.host_base.specs.Answers.{◌>>=◌, needs}
+use Rattle.disk_model.specs.host_base.Answers.{◌>>=◌, needs}
 use Rattle.record_model.specs.declared.runs.Run.{Run}
 use Rattle.record_model.specs.declared.runs.PairsFault.{PairsFault}
 use Rattle.record_model.specs.declared.runs.PairsFault.TheVariants.{Header, Cut, Range}

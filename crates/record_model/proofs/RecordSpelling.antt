@@ -3,8 +3,8 @@ use Rattle.std.proofs.Common.{◌≡◌, ℕ, true, ◌+◌, ◌-◌, ◌/◌, �
 use Rattle.std.specs.List.{AllByRecursion, concat, flat_map}
 use Rattle.std.proofs.lemmas.List.{append_assoc, length-append, take_at}
 use Rattle.std.proofs.lemmas.List.Elements.{recursion_from_All}
-use Rattle.host_base.specs.declared.file_ref.FileRef.{FileRef}
-use Rattle.host_base.specs.FileRefs.{packed, unpacked}
+use Rattle.disk_model.specs.host_base.declared.file_ref.FileRef.{FileRef}
+use Rattle.disk_model.specs.host_base.FileRefs.{packed, unpacked}
 use Rattle.disk_model.specs.Numbers.{field, spell}
 use Rattle.disk_model.specs.Bytes.{part, zeros}
 use Rattle.disk_model.specs.Content.{is_signed}

@@ -1,7 +1,7 @@
 -- A record is its shape with lawful values.
 use Rattle.std.proofs.Common.{◌≡◌, ℕ, Bool, true, false, List, map, Result, Ok, Err, refl}
 use Rattle.std.specs.List.{list_all}
-use Rattle.host_base.specs.Answers.{◌>>=◌, needs}
+use Rattle.disk_model.specs.host_base.Answers.{◌>>=◌, needs}
 use Rattle.record_model.specs.declared.record.RecHead.{RecHead}
 use Rattle.record_model.specs.declared.attribute.Attr.{Attr}
 use Rattle.record_model.specs.Attributes.{is_inside, attr_of}

@@ -1,3 +1,6 @@
+pub use Rattle.disk_model.specs as disk_model
+pub use Rattle.disk_model.specs.host_base
+pub use Rattle.utf16_name.specs as utf16_name
 pub mod Constants
 pub mod Attributes
 pub mod Values

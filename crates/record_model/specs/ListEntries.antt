@@ -1,7 +1,7 @@
 -- The entries of an attribute list (Linux-NTFS documentation, "$ATTRIBUTE_LIST"): 00 type, 04 length, 06 name length in units,
 -- 07 name offset, 08 first VCN, 10 reference of the record that holds the attribute, 18 id.
 use Rattle.std.specs.Prelude.{◌≡◌, ℕ, zero, suc, ◌+◌, ◌*◌, ◌==◌, ◌&&◌, nat_le, Bool, true, false, if◌then◌else◌, List, [], ◌∷◌, length, take, drop}
-use Rattle.host_base.specs.FileRefs.{unpacked}
+use Rattle.disk_model.specs.host_base.FileRefs.{unpacked}
 use Rattle.disk_model.specs.Numbers.{field}
 use Rattle.record_model.specs.declared.list_entry.ListEntry.{ListEntry}
 use Rattle.record_model.specs.Attributes.{units_at}

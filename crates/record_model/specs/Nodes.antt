@@ -2,9 +2,9 @@
 -- written. A node's bytes begin with its header: 00 first entry, 04 used, 08 allocated, all from the header on; 0C flags.
 use Rattle.std.specs.Prelude.{◌≡◌, ℕ, zero, suc, ◌+◌, ◌-◌, ◌*◌, ◌/◌, ◌%◌, ◌<◌, ◌≤◌, ◌^◌, List, [], ◌∷◌, ◌++◌, length, map, take, drop, Option, Some, None, Result, Ok, Bool, true, false, ◌&&◌, ◌||◌, nat_le, nat_lt, ◌==◌, if◌then◌else◌, All}
 use Rattle.std.specs.List.{list_all, flat_map, concat, sum_by}
-use Rattle.host_base.specs.declared.file_ref.FileRef.{FileRef}
-use Rattle.host_base.specs.Answers.{◌>>=◌, needs}
-use Rattle.host_base.specs.FileRefs.{packed, unpacked}
+use Rattle.disk_model.specs.host_base.declared.file_ref.FileRef.{FileRef}
+use Rattle.disk_model.specs.host_base.Answers.{◌>>=◌, needs}
+use Rattle.disk_model.specs.host_base.FileRefs.{packed, unpacked}
 use Rattle.disk_model.specs.declared.block.BlockKind.TheVariants.{Index}
 use Rattle.disk_model.specs.Numbers.{field, spell}
 use Rattle.disk_model.specs.Bytes.{part, zeros, up8}

@@ -5,7 +5,7 @@
 use Rattle.std.specs.Prelude.{ℕ, ℤ, pos, negsuc, zero, suc, ◌+◌, ◌/◌, ◌%◌, ◌^◌, ◌+ℤ◌, List, [], ◌∷◌, length, take, drop, Result, Ok, Err, Bool, true, ◌&&◌, nat_le, nat_lt, Option, Some, None, false, option_map, unwrap_or, unsigned_abs, ⊤, IfSome, ◌-ℤ◌, ◌<◌, ◌≤◌, ◌-◌, ◌*◌, ◌++◌, ◌≡◌, if◌then◌else◌}
 use Rattle.std.specs.Int.{w64}
 use Rattle.byteorder.specs.Endian.{little_number, little_bytes, low_bytes, twos_complement}
-use Rattle.host_base.specs.Answers.{◌>>=◌, needs, Cause, refused, no_memory}
+use Rattle.disk_model.specs.host_base.Answers.{◌>>=◌, needs, Cause, refused, no_memory}
 use Rattle.record_model.specs.declared.runs.Run.{Run}
 use Rattle.record_model.specs.declared.runs.PairsFault.{PairsFault}
 use Rattle.record_model.specs.declared.runs.PairsFault.TheVariants.{Header, Cut, Range, Memory}

@@ -1,7 +1,7 @@
 -- The laws of a file record's grammar: the table against the reader, the written spelling against both, and the rules.
 use Rattle.std.specs.Prelude.{◌≡◌, ◌↔◌, ◌⊎◌, ℕ, ◌<◌, ◌≤◌, true, false, List, ◌++◌, length, map, take, Ok, Err}
 use Rattle.std.specs.List.{list_all, concat, AllByRecursion}
-use Rattle.host_base.specs.Answers.{◌>>=◌, needs}
+use Rattle.disk_model.specs.host_base.Answers.{◌>>=◌, needs}
 use Rattle.disk_model.specs.Numbers.{field}
 use Rattle.disk_model.specs.Bytes.{AreBytes, part, zeros}
 use Rattle.disk_model.specs.Content.{is_signed}

@@ -1,8 +1,8 @@
 -- File records: reading a body, rule by rule, the table, and the spelling that is written.
 use Rattle.std.specs.Prelude.{◌≡◌, ℕ, zero, suc, ◌+◌, ◌-◌, ◌%◌, ◌<◌, ◌≤◌, ◌^◌, List, [], ◌∷◌, ◌++◌, length, map, take, drop, Result, Ok, Bool, true, false, ◌&&◌, nat_le, nat_lt, ◌==◌, All, IsTrue}
 use Rattle.std.specs.List.{list_all, flat_map, concat}
-use Rattle.host_base.specs.Answers.{◌>>=◌, needs}
-use Rattle.host_base.specs.FileRefs.{packed, unpacked}
+use Rattle.disk_model.specs.host_base.Answers.{◌>>=◌, needs}
+use Rattle.disk_model.specs.host_base.FileRefs.{packed, unpacked}
 use Rattle.disk_model.specs.Numbers.{field, spell}
 use Rattle.disk_model.specs.Bytes.{part, zeros}
 use Rattle.record_model.specs.declared.record.RecHead.{RecHead}

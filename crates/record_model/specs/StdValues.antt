@@ -1,7 +1,7 @@
 -- The values of attributes field by field: reading one, its table, and the bytes of a value after its fields are written.
 use Rattle.std.specs.Prelude.{◌≡◌, ℕ, ◌+◌, ◌*◌, ◌<◌, ◌≤◌, ◌^◌, List, length, nat_le, if◌then◌else◌, Result, Ok, Err}
-use Rattle.host_base.specs.Answers.{Cause, refused, no_memory}
-use Rattle.host_base.specs.FileRefs.{packed}
+use Rattle.disk_model.specs.host_base.Answers.{Cause, refused, no_memory}
+use Rattle.disk_model.specs.host_base.FileRefs.{packed}
 use Rattle.utf16_name.specs.Lawful.{IsName}
 use Rattle.disk_model.specs.Numbers.{field, spell}
 use Rattle.disk_model.specs.Bytes.{written}

@@ -1,7 +1,7 @@
 -- The values of attributes: standard information, file names.
 use Rattle.std.specs.Prelude.{ℕ, ◌+◌, ◌*◌, ◌==◌, ◌&&◌, Bool, true, false, nat_le, List, length, is_ok, if◌then◌else◌}
-use Rattle.host_base.specs.declared.file_ref.FileRef.{FileRef}
-use Rattle.host_base.specs.FileRefs.{unpacked}
+use Rattle.disk_model.specs.host_base.declared.file_ref.FileRef.{FileRef}
+use Rattle.disk_model.specs.host_base.FileRefs.{unpacked}
 use Rattle.utf16_name.specs.Names.{name_of}
 use Rattle.disk_model.specs.Numbers.{field}
 use Rattle.record_model.specs.declared.attribute.OwnForm.{OwnForm}

@@ -1,6 +1,6 @@
 ghost use Rattle.std.specs.Prelude.{◌≡◌, [], ◌∷◌, ◌++◌, OnOk, OnErr, length};
 
-use host_base::Bytes;
+use disk_model::Bytes;
 use std::alloc::{AllocError, Global};
 use std::marker::Model;
 use utf16_name::Units;

@@ -1,7 +1,7 @@
 ghost use Rattle.std.specs.Prelude.{◌≡◌, ◌<◌, ◌≤◌, [], ◌∷◌, ◌++◌, OnOk, OnErr, IfOk, insert, remove, set, slice_get, take, drop, length};
 ghost use Rattle.record_model.specs.Nodes.{last_entry};
 
-use host_base::{Bytes, FileRef};
+use disk_model::{Bytes, FileRef};
 use std::alloc::{AllocError, Global};
 use std::marker::Model;
 

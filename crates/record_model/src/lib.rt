@@ -27,6 +27,10 @@ pub use constants::{
     MOST_ATTRIBUTES, NAMES_INDEX, OBJECT_ID, REPARSE_POINT, STANDARD_INFORMATION,
     VOLUME_INFORMATION, VOLUME_NAME,
 };
+pub use disk_model::{
+    Bytes, FileRef, Memory, is_same_reference, put_u16, put_u32, put_u64, u8_at, u16_at, u32_at,
+    u64_at,
+};
 pub use entry::{Entry, EntryList, last_entry};
 pub use flags::{AttributeFlags, EntryFlags, FileFlags, NodeFlags, RecordFlags, VolumeFlags};
 pub use list_entry::ListEntry;
@@ -45,6 +49,7 @@ pub use record_laws::{
 };
 pub use runs::{PairsFault, Run, Runs};
 pub use units::units_at;
+pub use utf16_name::{Name, NameFault, Units, check};
 pub use value_laws::{
     file_name_is_table, file_name_read_again, journal_max_is_table, journal_max_read_again,
     std_info_is_table, std_info_read_again, volume_info_is_table, volume_info_read_again,

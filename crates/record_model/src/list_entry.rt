@@ -1,4 +1,4 @@
-use host_base::FileRef;
+use disk_model::FileRef;
 use utf16_name::Units;
 
 /// An entry of an attribute list: the record in which an attribute stands (Linux-NTFS

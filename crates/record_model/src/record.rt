@@ -1,4 +1,4 @@
-use host_base::FileRef;
+use disk_model::FileRef;
 
 /// The fields of a file record's header (Linux-NTFS documentation, "FILE Record").
 #[derive(Clone, Copy, Debug, PartialEq, Eq)]

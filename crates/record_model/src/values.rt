@@ -1,7 +1,7 @@
 ghost use Rattle.std.specs.Prelude.{◌≡◌};
 ghost use Rattle.record_model.specs.declared.values.ValueFault.TheVariants.{Memory as no_memory};
 
-use host_base::FileRef;
+use disk_model::FileRef;
 use std::alloc::AllocError;
 use thiserror::Error;
 use utf16_name::Name;

@@ -5,7 +5,7 @@ use Rattle.std.specs.List.{range_with_len, flat_map}
 use Rattle.std.proofs.lemmas.List.{append-nil, get_or_past}
 use Rattle.std.proofs.lemmas.List.Concat.{flat_map-append}
 use Rattle.std.proofs.lemmas.List.FromFn.{map-range_with_len_more, get_or-map-range_with_len, length-map-range_with_len}
-use Rattle.record_model.specs.Records.{Record}
+use Rattle.state_model.specs.record_model.Records.{Record}
 use Rattle.state_model.specs.Files.{file_at, links_at, only_base, file_links}
 use Rattle.state_model.specs.Trees.{parent_at, first_parent}
 use Rattle.state_model.specs.Loads.{table_in}

@@ -6,8 +6,8 @@ use mathlib.Core.Path.{fun_ext}
 use Rattle.std.proofs.lemmas.Bool.{cases_lt, lt-ltb}
 use Rattle.std.proofs.lemmas.List.{get_or_past}
 use Rattle.std.proofs.lemmas.List.FromFn.{get_or-map-range_with_len, length-map-range_with_len}
-use Rattle.record_model.specs.Records.{Record}
-use Rattle.file_tree.specs.Walks.{root, at_some, first_user_record, passes_system}
+use Rattle.state_model.specs.record_model.Records.{Record}
+use Rattle.state_model.specs.file_tree.Walks.{root, at_some, first_user_record, passes_system}
 use Rattle.state_model.specs.Files.{Table}
 use Rattle.state_model.specs.Trees.{parent_at, leads, is_in_system}
 use Rattle.state_model.specs.Loads.{table_in}

@@ -4,8 +4,8 @@ use Rattle.std.specs.List.{range_with_len}
 use Rattle.std.proofs.lemmas.Bool.{cases_lt}
 use Rattle.std.proofs.lemmas.List.{get_or_past}
 use Rattle.std.proofs.lemmas.List.FromFn.{map-range_with_len_more, get_or-map-range_with_len, length-map-range_with_len}
-use Rattle.file_tree.specs.declared.link.Link.{Link}
-use Rattle.record_model.specs.Records.{Record}
+use Rattle.state_model.specs.file_tree.declared.link.Link.{Link}
+use Rattle.state_model.specs.record_model.Records.{Record}
 use Rattle.state_model.specs.Files.{Table, only_base, file_at, file_links, links_at}
 use Rattle.state_model.specs.Loads.{table_in}
 use Rattle.record_rules.specs.Links.{links_in}

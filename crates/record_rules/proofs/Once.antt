@@ -5,7 +5,7 @@ use Rattle.std.specs.List.{range_with_len}
 use Rattle.std.proofs.lemmas.Bool.{cases_eq, ltb-true, ltb-false}
 use Rattle.std.proofs.lemmas.List.{get_or_past, length-set}
 use Rattle.std.proofs.lemmas.List.FromFn.{length-map-range_with_len}
-use Rattle.file_tree.specs.Walks.{at_some}
+use Rattle.state_model.specs.file_tree.Walks.{at_some}
 use Rattle.record_rules.specs.declared.passing.Question.{Question}
 use Rattle.record_rules.specs.declared.passing.Question.TheVariants.{Rooted, InSystem}
 use Rattle.record_rules.proofs.Ascents.{map_more}

@@ -1,7 +1,7 @@
 -- Names that rise, from the first on.
 use Rattle.std.proofs.Common.{◌≡◌, ℕ, List, [], ◌∷◌, refl}
 use Rattle.std.specs.Prelude.{◌&&◌}
-use Rattle.file_tree.specs.declared.link.Link.{Link}
+use Rattle.state_model.specs.file_tree.declared.link.Link.{Link}
 use Rattle.state_model.specs.Rules.{is_rising}
 use Rattle.record_rules.specs.Rises.{starts_rising}
 

@@ -5,9 +5,9 @@ use Rattle.std.proofs.lemmas.Bool.Decides.{nat_tests}
 use Rattle.std.proofs.lemmas.Grind.{common_steps}
 use Rattle.std.proofs.lemmas.List.{get_or-replicate}
 use Rattle.std.proofs.lemmas.List.Sums.{sum_by_more}
-use Rattle.host_base.specs.FileRefs.{same_reference}
-use Rattle.file_tree.specs.declared.link.Link.{Link}
-use Rattle.record_model.specs.Records.{Record}
+use Rattle.file_record.specs.host_base.FileRefs.{same_reference}
+use Rattle.state_model.specs.file_tree.declared.link.Link.{Link}
+use Rattle.state_model.specs.record_model.Records.{Record}
 use Rattle.state_model.specs.Files.{Table, file_at, links_at, reference}
 use Rattle.state_model.specs.Rules.{count_in, names_in}
 use Rattle.record_rules.specs.Counts.{count_for, count_at, names_for, names_at, has_sequence, has_reference}

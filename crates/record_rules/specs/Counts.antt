@@ -1,8 +1,8 @@
 -- How many names stand in each directory, by the directory's number.
 use Rattle.std.specs.Prelude.{ℕ, Bool, false, ◌==◌, List, Option, Some, None}
-use Rattle.host_base.specs.declared.file_ref.FileRef.{FileRef}
-use Rattle.file_tree.specs.declared.link.Link.{Link}
-use Rattle.record_model.specs.Records.{Record}
+use Rattle.file_record.specs.host_base.declared.file_ref.FileRef.{FileRef}
+use Rattle.state_model.specs.file_tree.declared.link.Link.{Link}
+use Rattle.state_model.specs.record_model.Records.{Record}
 use Rattle.state_model.specs.Files.{Table, file_at, reference}
 use Rattle.state_model.specs.Rules.{count_in, names_in}
 

@@ -1,3 +1,4 @@
+pub use Rattle.state_model.specs as state_model
 pub mod Counts
 pub mod Links
 pub mod Passing

@@ -1,8 +1,8 @@
 -- The names of records that are held in memory.
 use Rattle.std.specs.Prelude.{List, Option, length, map}
 use Rattle.std.specs.List.{range_with_len}
-use Rattle.record_model.specs.Records.{Record}
-use Rattle.file_tree.specs.declared.link.Link.{Link}
+use Rattle.state_model.specs.record_model.Records.{Record}
+use Rattle.state_model.specs.file_tree.declared.link.Link.{Link}
 use Rattle.state_model.specs.Files.{links_at}
 use Rattle.state_model.specs.Loads.{table_in}
 

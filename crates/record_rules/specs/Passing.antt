@@ -1,6 +1,6 @@
 -- The ways up from all records, each record passed once.
 use Rattle.std.specs.Prelude.{◌≡◌, ℕ, zero, suc, ◌<◌, Bool, true, false, ◌==◌, nat_lt, if◌then◌else◌, List, [], ◌∷◌, length, slice_index_or, Option, Some, None}
-use Rattle.file_tree.specs.Walks.{root, at_some, first_user_record}
+use Rattle.state_model.specs.file_tree.Walks.{root, at_some, first_user_record}
 use Rattle.record_rules.specs.declared.passing.Question.{Question}
 use Rattle.record_rules.specs.declared.passing.Question.TheVariants.{Rooted, InSystem}
 

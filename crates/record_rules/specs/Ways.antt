@@ -1,7 +1,7 @@
 -- What the ways up from the files of a volume say.
 use Rattle.std.specs.Prelude.{◌≡◌, List, Option, length, map}
 use Rattle.std.specs.List.{range_with_len}
-use Rattle.record_model.specs.Records.{Record}
+use Rattle.state_model.specs.record_model.Records.{Record}
 use Rattle.state_model.specs.Trees.{parent_at, leads, is_in_system}
 use Rattle.state_model.specs.Loads.{table_in}
 use Rattle.record_rules.specs.declared.climbing.Ways.{Ways}

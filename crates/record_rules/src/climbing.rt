@@ -1,8 +1,8 @@
 //! The names of all files, and the way up from them.
 ghost use Rattle.std.specs.Prelude.{◌≡◌, ◌++◌, ◌&&◌, ◌==◌, not, nat_lt, IfOk, OnOk, length, map};
 ghost use Rattle.std.specs.List.{range_with_len, list_any};
-ghost use Rattle.file_tree.specs.declared.link.Link.{Link as the_link};
-ghost use Rattle.file_tree.specs.Walks.{root, first_user_record};
+ghost use Rattle.state_model.specs.file_tree.declared.link.Link.{Link as the_link};
+ghost use Rattle.state_model.specs.file_tree.Walks.{root, first_user_record};
 ghost use Rattle.state_model.specs.Trees.{all_links, first_parent, parent_at, leads, is_in_system, is_system};
 ghost use Rattle.state_model.specs.Loads.{table_in};
 ghost use Rattle.record_rules.specs.Links.{links_in};
@@ -10,9 +10,8 @@ ghost use Rattle.record_rules.specs.Ways.{AreWaysOf};
 
 use crate::linking::{links_at, links_of};
 use crate::passing::{Question, climb_all};
-use file_record::FileRec;
-use file_tree::{FIRST_USER_RECORD, Link, LinkList, ROOT};
-use host_base::Memory;
+use file_record::{FileRec, Memory};
+use state_model::{FIRST_USER_RECORD, Link, LinkList, ROOT};
 use std::alloc::{AllocError, Global};
 
 // Appends copies of the links.

@@ -7,10 +7,8 @@ ghost use Rattle.record_rules.specs.Links.{links_in};
 
 use crate::linking::links_of;
 use crate::rising::is_rising;
-use file_record::FileRec;
-use file_tree::{Link, LinkList};
-use host_base::{FileRef, is_same_reference};
-use state_model::is_same_link;
+use file_record::{FileRec, FileRef, is_same_reference};
+use state_model::{Link, LinkList, is_same_link};
 
 fn contains_link(links: &[Link], link: &Link) -> bool
     ensures { result ≡ list_any (same_link link.now) links.now }

@@ -4,9 +4,8 @@ ghost use Rattle.record_rules.specs.Counts.{count_at, names_at, has_reference};
 ghost use Rattle.state_model.specs.Loads.{table_in};
 ghost use Rattle.record_rules.specs.Links.{links_in};
 
-use file_record::{FileRec, file_at};
-use file_tree::{Link, LinkList};
-use host_base::{FileRef, Memory};
+use file_record::{FileRec, FileRef, Memory, file_at};
+use state_model::{Link, LinkList};
 use std::alloc::Global;
 
 // Whether the file with this number has this sequence.

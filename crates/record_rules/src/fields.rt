@@ -1,14 +1,13 @@
 //! What one record says by itself, wherever the bytes of its values lie.
 ghost use Rattle.std.specs.Prelude.{◌≡◌, ◌==◌, find};
 ghost use Rattle.std.specs.Option.{option_copied};
-ghost use Rattle.record_model.specs.Constants.{standard_information};
-ghost use Rattle.record_model.specs.StdValues.{std_info_of};
-ghost use Rattle.record_model.specs.declared.attribute.Attr.{Attr as the_attr};
+ghost use Rattle.state_model.specs.record_model.Constants.{standard_information};
+ghost use Rattle.state_model.specs.record_model.StdValues.{std_info_of};
+ghost use Rattle.state_model.specs.record_model.declared.attribute.Attr.{Attr as the_attr};
 ghost use Rattle.state_model.specs.Files.{no_info, has_type, form_info, info_of, info_or, is_encrypted, is_compressed, is_sparse, is_directory_record};
 
-use file_record::FileRec;
-use record_model::{Attr, AttributeFlags, OwnForm, RecordFlags, STANDARD_INFORMATION, StdInfo};
-use std_values::FixedValue;
+use file_record::{FileRec, FixedValue};
+use state_model::{Attr, AttributeFlags, OwnForm, RecordFlags, STANDARD_INFORMATION, StdInfo};
 
 /// Whether the record is that of a directory, by the flag 2 of its header (Linux-NTFS
 /// documentation, "FILE Record").

@@ -5,9 +5,8 @@ ghost use Rattle.state_model.specs.Loads.{table_in};
 ghost use Rattle.record_rules.specs.Links.{links_in};
 
 use crate::names::record_links;
-use file_record::{FileRec, file_at};
-use file_tree::{Link, LinkList};
-use host_base::Memory;
+use file_record::{FileRec, Memory, file_at};
+use state_model::{Link, LinkList};
 use std::alloc::{AllocError, Global};
 
 /// The names of the file with this number. The error is want of memory.

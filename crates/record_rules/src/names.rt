@@ -1,15 +1,12 @@
 //! The names of one record.
 ghost use Rattle.std.specs.Prelude.{◌≡◌, ◌++◌, [], None, IfOk, IsOk, OnOk, OnErr};
 ghost use Rattle.std.specs.List.{cons_option};
-ghost use Rattle.record_model.specs.StdValues.{file_name_of};
+ghost use Rattle.state_model.specs.record_model.StdValues.{file_name_of};
 ghost use Rattle.state_model.specs.Files.{named, form_link, attr_link, record_links};
 
-use file_record::FileRec;
-use file_tree::{Link, LinkList};
-use host_base::{FileRef, Memory};
-use record_model::{Attr, FILE_NAME, FileNameValue, OwnForm, ValueFault};
+use file_record::{FileRec, FileRef, Memory, NamedValue};
+use state_model::{Attr, FILE_NAME, FileNameValue, Link, LinkList, OwnForm, ValueFault};
 use std::alloc::Global;
-use std_values::NamedValue;
 
 /// The name in the bytes of a file-name value (Linux-NTFS documentation, "$FILE_NAME") of the file
 /// `child`, or `None` where they aren't such a value. The error is want of memory. It takes time

@@ -6,10 +6,8 @@ ghost use Rattle.state_model.specs.Rules.{is_partner, has_partner, is_short_in, 
 ghost use Rattle.state_model.specs.Loads.{table_in};
 
 use crate::fields::{has_type, is_directory_record};
-use file_record::{FileRec, file_at};
-use file_tree::{FIRST_USER_RECORD, Link, SHORT, WIN32};
-use host_base::{FileRef, is_same_reference};
-use record_model::STANDARD_INFORMATION;
+use file_record::{FileRec, FileRef, file_at, is_same_reference};
+use state_model::{FIRST_USER_RECORD, Link, SHORT, STANDARD_INFORMATION, WIN32};
 
 fn long_count(links: &[Link]) -> usize
     ensures { result ≡ long_count links.now }

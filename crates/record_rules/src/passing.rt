@@ -3,7 +3,7 @@ ghost use Rattle.std.specs.Prelude.{◌≡◌, ◌++◌, ◌∷◌, [], IfOk, le
 ghost use Rattle.std.specs.List.{range_with_len};
 ghost use Rattle.record_rules.specs.Passing.{end_of, answered, passed_answer, known, passed, climbed, reach, Tells, AreSettled};
 
-use file_tree::{FIRST_USER_RECORD, ROOT};
+use state_model::{FIRST_USER_RECORD, ROOT};
 use std::alloc::{AllocError, Global};
 
 /// What is asked of the way up from a record.

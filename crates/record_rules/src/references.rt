@@ -1,14 +1,13 @@
 //! References to files, and whether they are those of directories.
 ghost use Rattle.std.specs.Prelude.{◌≡◌};
 ghost use Rattle.std.specs.List.{list_all};
-ghost use Rattle.file_tree.specs.declared.link.Link.{Link as the_link};
+ghost use Rattle.state_model.specs.file_tree.declared.link.Link.{Link as the_link};
 ghost use Rattle.state_model.specs.Rules.{is_directory_at};
 ghost use Rattle.state_model.specs.Loads.{table_in};
 
 use crate::fields::is_directory_record;
-use file_record::{FileRec, file_at};
-use file_tree::Link;
-use host_base::FileRef;
+use file_record::{FileRec, FileRef, file_at};
+use state_model::Link;
 
 // Whether the reference is that of a directory.
 #[tactic(auto, unfolding(state_model::specs::Rules::is_directory_at))]

@@ -1,10 +1,10 @@
 //! Names in order.
 ghost use Rattle.std.specs.Prelude.{◌≡◌};
-ghost use Rattle.file_tree.specs.Names.{comes_before};
+ghost use Rattle.state_model.specs.file_tree.Names.{comes_before};
 ghost use Rattle.state_model.specs.Rules.{is_rising};
 ghost use Rattle.record_rules.specs.Rises.{starts_rising};
 
-use file_tree::{Link, compare_names};
+use state_model::{Link, compare_names};
 use std::cmp::Ordering;
 
 fn comes_before(upper: &[u16], a: &Link, b: &Link) -> bool

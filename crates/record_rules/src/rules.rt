@@ -10,7 +10,7 @@ use crate::naming::keeps_names_at;
 use crate::references::have_directories;
 use crate::ways::keeps_way;
 use file_record::FileRec;
-use file_tree::LinkList;
+use state_model::LinkList;
 
 #[tactic(auto, using(crate::proofs::Links::links_found))]
 fn keeps_1(records: &[Option<FileRec>], links: &[LinkList], number: u64) -> bool

@@ -2,11 +2,11 @@
 use Rattle.std.proofs.Common.{◌≡◌, ℕ, ◌≤◌, ◌^◌, true, List, [], ◌∷◌, length, refl, sym, ap, ◌∙◌, subst, arith}
 use Rattle.std.specs.Prelude.{All, IfOk, Result, Ok, Err}
 use Rattle.std.proofs.lemmas.List.Elements.{All-head, All-filter}
-use Rattle.record_model.specs.declared.attribute.Attr.{Attr}
-use Rattle.record_model.specs.Pairs.{HasSpelling}
-use Rattle.record_model.specs.Records.{Record}
-use Rattle.state_model.specs.declared.stream.Extents.{Extents}
-use Rattle.state_model.specs.Streams.{is_attribute_of, attributes_of}
+use Rattle.record_writer.specs.record_model.declared.attribute.Attr.{Attr}
+use Rattle.record_writer.specs.record_model.Pairs.{HasSpelling}
+use Rattle.record_writer.specs.record_model.Records.{Record}
+use Rattle.stream_map.specs.state_model.declared.stream.Extents.{Extents}
+use Rattle.stream_map.specs.state_model.Streams.{is_attribute_of, attributes_of}
 use Rattle.record_streams.specs.Placing.{with_stream, placed_attr, placed_first, placed_record}
 use Rattle.record_streams.specs.Fitting.{IsShort, FitsButRoom, IsPlaceable, HasFields}
 use Rattle.record_streams.proofs.Spelled.{short_placed}

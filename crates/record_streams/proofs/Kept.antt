@@ -4,15 +4,15 @@ use Rattle.std.specs.Prelude.{map, filter, not, All, IsTrue}
 use Rattle.std.proofs.lemmas.Bool.{cases_Bool}
 use Rattle.std.proofs.lemmas.List.{length-map}
 use Rattle.std.proofs.lemmas.List.Elements.{All-nil, All-cons, All-head, All-tail, All-filter, All-map, All-weaker}
-use Rattle.record_model.specs.declared.attribute.Attr.{Attr}
-use Rattle.record_model.specs.Attributes.{spelling, FitsAttr}
-use Rattle.record_model.specs.Constants.{end_mark}
-use Rattle.record_model.specs.Records.{Record, spelled_bytes, used_of, TypesRise, FitsRecord}
-use Rattle.record_model.specs.Values.{has_lawful_value}
+use Rattle.record_writer.specs.record_model.declared.attribute.Attr.{Attr}
+use Rattle.record_writer.specs.record_model.Attributes.{spelling, FitsAttr}
+use Rattle.record_writer.specs.record_model.Constants.{end_mark}
+use Rattle.record_writer.specs.record_model.Records.{Record, spelled_bytes, used_of, TypesRise, FitsRecord}
+use Rattle.record_writer.specs.record_model.Values.{has_lawful_value}
 use Rattle.record_writer.specs.Normal.{normal, normal_record}
 use Rattle.record_writer.specs.NormalLaws.{FitsByRoom}
 use Rattle.record_writer.proofs.Measures.{spelled_count}
-use Rattle.state_model.specs.Streams.{first_vcn, is_attribute_of, with_attribute, sorted_into, attributes_of}
+use Rattle.stream_map.specs.state_model.Streams.{first_vcn, is_attribute_of, with_attribute, sorted_into, attributes_of}
 use Rattle.record_streams.specs.Placing.{without_stream, with_stream}
 use Rattle.record_streams.specs.Fitting.{IsShort, FitsButRoom}
 

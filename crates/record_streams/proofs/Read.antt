@@ -3,13 +3,13 @@ use Rattle.std.proofs.Common.{◌≡◌, ℕ, ◌+◌, ◌*◌, ◌^◌, ◌<◌
 use Rattle.std.specs.Prelude.{map, All, IsTrue}
 use Rattle.std.specs.List.{AllByRecursion}
 use Rattle.std.proofs.lemmas.List.Elements.{All-nil, All-cons, All-head, All-tail}
-use Rattle.disk_model.specs.Bytes.{AreBytes}
-use Rattle.record_model.specs.declared.attribute.Attr.{Attr}
-use Rattle.record_model.specs.Attributes.{spelling, FitsAttr}
-use Rattle.record_model.specs.Constants.{end_mark}
-use Rattle.record_model.specs.Records.{Record, record_at, spelled_bytes, FitsHead}
-use Rattle.record_model.specs.Values.{has_lawful_value}
-use Rattle.record_model.proofs.Records.{read_is_table}
+use Rattle.record_writer.specs.disk_model.Bytes.{AreBytes}
+use Rattle.record_writer.specs.record_model.declared.attribute.Attr.{Attr}
+use Rattle.record_writer.specs.record_model.Attributes.{spelling, FitsAttr}
+use Rattle.record_writer.specs.record_model.Constants.{end_mark}
+use Rattle.record_writer.specs.record_model.Records.{Record, record_at, spelled_bytes, FitsHead}
+use Rattle.record_writer.specs.record_model.Values.{has_lawful_value}
+use Rattle.record_writer.proofs.record_model.Records.{read_is_table}
 use Rattle.record_writer.specs.Normal.{normal}
 use Rattle.record_writer.proofs.NormalRoom.{head_fits, lawful_stays, read_fits}
 use Rattle.record_streams.specs.Fitting.{IsShort, FitsButRoom}

@@ -4,22 +4,22 @@ use Rattle.std.specs.Prelude.{IsTrue, is_some, unwrap_or, ◌==◌}
 use Rattle.std.proofs.Math.Nat.{mul-le-mul_left}
 use Rattle.std.proofs.lemmas.Bool.{cases_Bool, cases_eq, eq-eqb, ne_eqb, or_cases}
 use Rattle.std.proofs.lemmas.List.{length-append}
-use Rattle.disk_model.specs.Bytes.{up8}
-use Rattle.record_model.specs.declared.attribute.Attr.{Attr}
-use Rattle.record_model.specs.declared.attribute.OwnForm.{OwnForm}
-use Rattle.record_model.specs.declared.attribute.OwnForm.TheVariants.{Resident, Mapped}
-use Rattle.record_model.specs.declared.runs.Run.{Run}
-use Rattle.record_model.specs.Attributes.{is_compressed_or_sparse, filled, held_bytes, spelling, FitsHeld, FitsForm}
-use Rattle.record_model.specs.Constants.{standard_information, file_name}
-use Rattle.record_model.specs.Pairs.{cluster_limit, signed_width, signed_bytes, delta_bytes, pair_of, pairs_from, pairs_of, Follow, HasSpelling}
-use Rattle.record_model.specs.Values.{has_lawful_value}
-use Rattle.record_model.proofs.PairsSigned.{length-signed_bytes, signed_width-le}
-use Rattle.record_model.proofs.UnitBytes.{length-filled}
+use Rattle.record_writer.specs.disk_model.Bytes.{up8}
+use Rattle.record_writer.specs.record_model.declared.attribute.Attr.{Attr}
+use Rattle.record_writer.specs.record_model.declared.attribute.OwnForm.{OwnForm}
+use Rattle.record_writer.specs.record_model.declared.attribute.OwnForm.TheVariants.{Resident, Mapped}
+use Rattle.record_writer.specs.record_model.declared.runs.Run.{Run}
+use Rattle.record_writer.specs.record_model.Attributes.{is_compressed_or_sparse, filled, held_bytes, spelling, FitsHeld, FitsForm}
+use Rattle.record_writer.specs.record_model.Constants.{standard_information, file_name}
+use Rattle.record_writer.specs.record_model.Pairs.{cluster_limit, signed_width, signed_bytes, delta_bytes, pair_of, pairs_from, pairs_of, Follow, HasSpelling}
+use Rattle.record_writer.specs.record_model.Values.{has_lawful_value}
+use Rattle.record_writer.proofs.record_model.PairsSigned.{length-signed_bytes, signed_width-le}
+use Rattle.record_writer.proofs.record_model.UnitBytes.{length-filled}
 use Rattle.record_writer.specs.Edits.{form_length}
 use Rattle.record_writer.specs.Normal.{normal, normal_form}
 use Rattle.record_writer.proofs.Measures.{length-spelling, held_short}
-use Rattle.state_model.specs.declared.stream.Extents.{Extents}
-use Rattle.state_model.specs.Loads.{total_clusters}
+use Rattle.stream_map.specs.state_model.declared.stream.Extents.{Extents}
+use Rattle.stream_map.specs.state_model.Loads.{total_clusters}
 use Rattle.record_streams.specs.Placing.{last_vcn, held_in, held_clusters, held_size, unit_of, placed_sizes, placed_attr}
 use Rattle.record_streams.specs.Fitting.{IsShort, IsPlaceable, HasFields}
 

@@ -6,16 +6,16 @@ use Rattle.std.specs.Cmp.Lexicographic.{pointwise}
 use Rattle.std.proofs.lemmas.Bool.{cases_Bool, and_parts, eqb-true}
 use Rattle.std.proofs.lemmas.List.{append-nil}
 use Rattle.std.proofs.lemmas.List.Elements.{All-head, filter_passes}
-use Rattle.record_model.specs.declared.attribute.Attr.{Attr}
-use Rattle.record_model.specs.declared.runs.Run.{Run}
-use Rattle.record_model.specs.Pairs.{runs_of, pairs_of, HasSpelling}
-use Rattle.record_model.specs.Records.{Record}
-use Rattle.record_model.proofs.PairsRead.{spelled_read}
-use Rattle.record_model.proofs.PairsSpelled.{written_spelled}
-use Rattle.state_model.specs.declared.stream.Extents.{Extents}
-use Rattle.state_model.specs.declared.stream.Stream.{Stream}
-use Rattle.state_model.specs.declared.stream.Stream.TheVariants.{Placed}
-use Rattle.state_model.specs.Streams.{is_attribute_of, sorted_into, attributes_of, runs_or, attribute_runs, joined, stream_of}
+use Rattle.record_writer.specs.record_model.declared.attribute.Attr.{Attr}
+use Rattle.record_writer.specs.record_model.declared.runs.Run.{Run}
+use Rattle.record_writer.specs.record_model.Pairs.{runs_of, pairs_of, HasSpelling}
+use Rattle.record_writer.specs.record_model.Records.{Record}
+use Rattle.record_writer.proofs.record_model.PairsRead.{spelled_read}
+use Rattle.record_writer.proofs.record_model.PairsSpelled.{written_spelled}
+use Rattle.stream_map.specs.state_model.declared.stream.Extents.{Extents}
+use Rattle.stream_map.specs.state_model.declared.stream.Stream.{Stream}
+use Rattle.stream_map.specs.state_model.declared.stream.Stream.TheVariants.{Placed}
+use Rattle.stream_map.specs.state_model.Streams.{is_attribute_of, sorted_into, attributes_of, runs_or, attribute_runs, joined, stream_of}
 use Rattle.record_streams.specs.Placing.{without_stream, with_stream, placed_attr, placed_first, placed_record}
 use Rattle.record_streams.proofs.Kept.{with_none, with_one, all_of_stream}
 

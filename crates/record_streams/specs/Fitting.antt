@@ -1,12 +1,12 @@
 -- Records that have a spelling but for their room.
 use Rattle.std.specs.Prelude.{◌≡◌, ℕ, ◌≤◌, ◌<◌, ◌^◌, ◌==◌, false, List, length, map, All, IsTrue}
-use Rattle.record_model.specs.declared.attribute.Attr.{Attr}
-use Rattle.record_model.specs.Attributes.{spelling, FitsAttr}
-use Rattle.record_model.specs.Constants.{end_mark, standard_information, file_name}
-use Rattle.record_model.specs.Records.{Record, TypesRise, FitsHead}
-use Rattle.record_model.specs.Values.{has_lawful_value}
+use Rattle.record_writer.specs.record_model.declared.attribute.Attr.{Attr}
+use Rattle.record_writer.specs.record_model.Attributes.{spelling, FitsAttr}
+use Rattle.record_writer.specs.record_model.Constants.{end_mark, standard_information, file_name}
+use Rattle.record_writer.specs.record_model.Records.{Record, TypesRise, FitsHead}
+use Rattle.record_writer.specs.record_model.Values.{has_lawful_value}
 use Rattle.record_writer.specs.Normal.{normal}
-use Rattle.state_model.specs.declared.stream.Extents.{Extents}
+use Rattle.stream_map.specs.state_model.declared.stream.Extents.{Extents}
 
 -- an attribute that stands in some record as it is written, of at most so many bytes
 pub record IsShort (a : Attr) : Type 0 where

@@ -1,14 +1,14 @@
 -- What a record keeps in which a stream is placed.
 use Rattle.std.specs.Prelude.{◌≡◌, ◌≢◌, ◌⊎◌, ℕ, ◌+◌, ◌<◌, ◌≤◌, ◌^◌, List, [], ◌∷◌, length, Some, Ok}
-use Rattle.disk_model.specs.Bytes.{AreBytes}
-use Rattle.record_model.specs.declared.attribute.Attr.{Attr}
-use Rattle.record_model.specs.Pairs.{HasSpelling}
-use Rattle.record_model.specs.Records.{Record, record_at, FitsRecord}
+use Rattle.record_writer.specs.disk_model.Bytes.{AreBytes}
+use Rattle.record_writer.specs.record_model.declared.attribute.Attr.{Attr}
+use Rattle.record_writer.specs.record_model.Pairs.{HasSpelling}
+use Rattle.record_writer.specs.record_model.Records.{Record, record_at, FitsRecord}
 use Rattle.record_writer.specs.Normal.{normal_record}
 use Rattle.record_writer.specs.NormalLaws.{FitsByRoom}
-use Rattle.state_model.specs.declared.stream.Extents.{Extents}
-use Rattle.state_model.specs.declared.stream.Stream.TheVariants.{Placed}
-use Rattle.state_model.specs.Streams.{attributes_of, stream_of}
+use Rattle.stream_map.specs.state_model.declared.stream.Extents.{Extents}
+use Rattle.stream_map.specs.state_model.declared.stream.Stream.TheVariants.{Placed}
+use Rattle.stream_map.specs.state_model.Streams.{attributes_of, stream_of}
 use Rattle.record_streams.specs.Placing.{placed_attr, placed_record}
 use Rattle.record_streams.specs.Fitting.{FitsButRoom}
 

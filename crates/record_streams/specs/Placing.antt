@@ -1,16 +1,16 @@
 -- A stream of a file record in other clusters.
 use Rattle.std.specs.Prelude.{ℕ, ◌+◌, ◌-◌, ◌*◌, ◌^◌, ◌==◌, Bool, not, is_some, if◌then◌else◌, List, [], ◌∷◌, filter, Option, Some, None}
-use Rattle.record_model.specs.declared.attribute.Attr.{Attr}
-use Rattle.record_model.specs.declared.attribute.Sizes.{Sizes}
-use Rattle.record_model.specs.declared.attribute.OwnForm.{OwnForm}
-use Rattle.record_model.specs.declared.attribute.OwnForm.TheVariants.{Resident, Mapped}
-use Rattle.record_model.specs.declared.runs.Run.{Run}
-use Rattle.record_model.specs.Attributes.{is_compressed_or_sparse}
-use Rattle.record_model.specs.Pairs.{pairs_of}
-use Rattle.record_model.specs.Records.{Record}
-use Rattle.state_model.specs.declared.stream.Extents.{Extents}
-use Rattle.state_model.specs.Loads.{total_clusters}
-use Rattle.state_model.specs.Streams.{is_attribute_of, attributes_of}
+use Rattle.record_writer.specs.record_model.declared.attribute.Attr.{Attr}
+use Rattle.record_writer.specs.record_model.declared.attribute.Sizes.{Sizes}
+use Rattle.record_writer.specs.record_model.declared.attribute.OwnForm.{OwnForm}
+use Rattle.record_writer.specs.record_model.declared.attribute.OwnForm.TheVariants.{Resident, Mapped}
+use Rattle.record_writer.specs.record_model.declared.runs.Run.{Run}
+use Rattle.record_writer.specs.record_model.Attributes.{is_compressed_or_sparse}
+use Rattle.record_writer.specs.record_model.Pairs.{pairs_of}
+use Rattle.record_writer.specs.record_model.Records.{Record}
+use Rattle.stream_map.specs.state_model.declared.stream.Extents.{Extents}
+use Rattle.stream_map.specs.state_model.Loads.{total_clusters}
+use Rattle.stream_map.specs.state_model.Streams.{is_attribute_of, attributes_of}
 
 -- ---- one attribute
 

@@ -1,17 +1,15 @@
 //! The attribute of a stream in clusters.
 ghost use Rattle.std.specs.Prelude.{◌≡◌, ◌+◌, ◌*◌, ◌<◌, ◌≤◌, ◌^◌, IfOk, length};
-ghost use Rattle.record_model.specs.Attributes.{is_compressed_or_sparse};
-ghost use Rattle.record_model.specs.Pairs.{cluster_limit, HasSpelling};
-ghost use Rattle.state_model.specs.Clusters.{IsClusterSize};
+ghost use Rattle.record_writer.specs.record_model.Attributes.{is_compressed_or_sparse};
+ghost use Rattle.record_writer.specs.record_model.Pairs.{cluster_limit, HasSpelling};
+ghost use Rattle.stream_map.specs.state_model.Clusters.{IsClusterSize};
 ghost use Rattle.record_streams.specs.Placing.{last_vcn, held_in, held_clusters, held_size, unit_of, placed_sizes, placed_attr};
-ghost use Rattle.state_model.specs.Loads.{total_clusters};
+ghost use Rattle.stream_map.specs.state_model.Loads.{total_clusters};
 
-use host_base::{Bytes, Memory};
-use record_model::{Attr, OwnForm, Run, Sizes};
-use state_model::{ClusterSize, Extents};
+use record_writer::{Attr, Bytes, Memory, OwnForm, Run, Sizes, Units};
 use std::alloc::Global;
+use stream_map::{ClusterSize, Extents};
 use stream_runs::total_clusters;
-use utf16_name::Units;
 
 // The last VCN of so many clusters.
 fn last_vcn(clusters: u64) -> u64
@@ -97,7 +95,7 @@ pub fn placed_attr(
     ensures { IfOk result (λ a. a ≡ placed_attr per extents.now attr.now) }
 {
     let sizes = placed_sizes(per, attr.head.flags, unit_of(&attr.form), extents);
-    let pairs = mapping_pairs::write(alloc, &extents.runs)?;
+    let pairs = stream_map::write(alloc, &extents.runs)?;
     let name = Units::copy_of(alloc, attr.name.as_slice())?;
     Ok(Attr {
         head: attr.head,

@@ -7,7 +7,13 @@ mod laws;
 mod records;
 
 pub use attribute::placed_attr;
-pub use file_record::FileRec;
 pub use laws::{placed_fits, streams_are_placed};
+pub use record_writer::{
+    Attr, Bytes, FileRec, OwnForm, RecFault, RoomFault, WrittenRecord, normal_attr, push_copies,
+    push_copy,
+};
 pub use records::{copied, placed_record, with_stream};
-pub use state_model::{ClusterSize, Extents};
+pub use stream_map::{
+    ClusterSize, Extents, Memory, attributes_of, block_at, no_extents, stream_of,
+};
+pub use stream_runs::{back, front, grown, last_cluster, merged, total_clusters};

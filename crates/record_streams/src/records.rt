@@ -1,18 +1,14 @@
 //! File records in which a stream is in other clusters.
 ghost use Rattle.std.specs.Prelude.{◌≡◌, ◌≤◌, ◌^◌, [], ◌∷◌, ◌++◌, IfOk, length};
-ghost use Rattle.record_model.specs.Pairs.{HasSpelling};
+ghost use Rattle.record_writer.specs.record_model.Pairs.{HasSpelling};
 ghost use Rattle.stream_map.specs.Attributes.{behind};
 ghost use Rattle.record_streams.specs.Placing.{with_stream, placed_first, placed_record};
 ghost use Rattle.record_streams.specs.Fitting.{FitsButRoom, IsPlaceable, HasFields};
 
 use crate::attribute::placed_attr;
-use file_record::FileRec;
-use host_base::Memory;
-use record_model::Attr;
-use record_writer::push_copy;
-use state_model::{ClusterSize, Extents};
+use record_writer::{Attr, FileRec, Memory, push_copy};
 use std::alloc::{AllocError, Global};
-use stream_map::{attributes_of, is_attribute_of};
+use stream_map::{ClusterSize, Extents, attributes_of, is_attribute_of};
 
 /// The record with this attribute in the place of the one that stands first of the stream of this
 /// type and name (in UTF-16 units), whose others go (Linux-NTFS documentation, "Attribute Header"); a

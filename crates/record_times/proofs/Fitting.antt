@@ -9,11 +9,11 @@ use Rattle.record_model.specs.Attributes.{FitsAttr}
 use Rattle.record_model.specs.Constants.{end_mark, standard_information}
 use Rattle.record_model.specs.Records.{Record, spelled_bytes, TypesRise, FitsHead}
 use Rattle.record_model.specs.Values.{has_lawful_value}
-use Rattle.record_writer.specs.Fitting.{rise_from}
-use Rattle.record_writer.specs.Normal.{normal}
-use Rattle.record_writer.specs.NormalLaws.{FitsByRoom}
-use Rattle.record_writer.proofs.Rising.{rise_true, true_rise}
-use Rattle.record_streams.specs.Fitting.{IsShort, FitsButRoom}
+use Rattle.plan_changes.specs.record_writer.Fitting.{rise_from}
+use Rattle.plan_changes.specs.record_writer.Normal.{normal}
+use Rattle.plan_changes.specs.record_writer.NormalLaws.{FitsByRoom}
+use Rattle.plan_changes.proofs.record_writer.Rising.{rise_true, true_rise}
+use Rattle.plan_changes.specs.record_streams.Fitting.{IsShort, FitsButRoom}
 use Rattle.disk_model.specs.Numbers.{spell}
 use Rattle.disk_model.specs.Bytes.{written, zeros}
 use Rattle.disk_model.proofs.Frames.{length-written}
@@ -24,9 +24,9 @@ use Rattle.record_model.specs.StdValues.{std_info_over}
 use Rattle.record_model.specs.Values.{is_standard_information, is_resident_and}
 use Rattle.record_model.proofs.FixedValues.{length-std_info_over}
 use Rattle.record_model.proofs.UnitBytes.{length-zeros}
-use Rattle.record_writer.proofs.Measures.{length-spelling}
+use Rattle.plan_changes.proofs.record_writer.Measures.{length-spelling}
 use Rattle.state_model.specs.Files.{has_type, no_info}
-use Rattle.plan_model.specs.Informed.{is_info}
+use Rattle.plan_changes.specs.plan_model.Informed.{is_info}
 use Rattle.record_times.specs.Times.{timed_info, timed_value, timed_form, timed_attr, timed_attrs, place_of_type, first_free, or_zero, new_id, new_value, new_info, timed_record}
 use Rattle.record_times.specs.Laws.{TimesAreSet}
 use Rattle.record_times.proofs.Timed.{with_own, with_new, had, had_none, info_lawful, rewritten, comes, info, node}

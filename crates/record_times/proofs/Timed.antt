@@ -20,17 +20,17 @@ use Rattle.record_model.specs.StdValues.{std_info_fields, std_info_of, IsStdInfo
 use Rattle.record_model.specs.Values.{is_standard_information, is_resident_and, has_lawful_value}
 use Rattle.record_model.proofs.FixedValues.{std_info_read, std_info_spelled}
 use Rattle.record_model.proofs.UnitBytes.{length-zeros}
-use Rattle.record_writer.proofs.NormalRoom.{lawful_stays}
-use Rattle.record_streams.specs.Fitting.{IsShort, FitsButRoom}
+use Rattle.plan_changes.proofs.record_writer.NormalRoom.{lawful_stays}
+use Rattle.plan_changes.specs.record_streams.Fitting.{IsShort, FitsButRoom}
 use Rattle.state_model.specs.declared.stream.Stream.{Stream}
 use Rattle.state_model.specs.Files.{has_type, info_of, attr_info, form_info, info_or, no_info}
-use Rattle.volume_model.specs.Volumes.{Volume}
-use Rattle.volume_model.specs.Nodes.{node_with, node_by}
-use Rattle.tree_model.specs.Effects.{changed_node, renewed}
-use Rattle.tree_laws.specs.Keeping.{PartReplaced}
-use Rattle.plan_model.specs.Attributes.{IsRewritten, AreRewritten, RewritesValues}
-use Rattle.plan_model.specs.Parts.{ReplacesAttrs}
-use Rattle.plan_model.specs.Informed.{is_info, with_info}
+use Rattle.plan_changes.specs.volume_model.Volumes.{Volume}
+use Rattle.plan_changes.specs.volume_model.Nodes.{node_with, node_by}
+use Rattle.plan_changes.specs.tree_model.Effects.{changed_node, renewed}
+use Rattle.plan_changes.specs.tree_laws.Keeping.{PartReplaced}
+use Rattle.plan_changes.specs.plan_model.Attributes.{IsRewritten, AreRewritten, RewritesValues}
+use Rattle.plan_changes.specs.plan_model.Parts.{ReplacesAttrs}
+use Rattle.plan_changes.specs.plan_model.Informed.{is_info, with_info}
 use Rattle.record_times.specs.Times.{timed_info, timed_value, timed_form, timed_attr, timed_attrs, place_of_type, new_id, with_next_id, new_value, new_info, timed_record}
 
 -- ---- which of the two it is

@@ -4,14 +4,14 @@ use Rattle.record_model.specs.Constants.{standard_information}
 use Rattle.record_model.specs.Records.{Record}
 use Rattle.state_model.specs.declared.stream.Stream.{Stream}
 use Rattle.state_model.specs.Files.{has_type, info_of}
-use Rattle.volume_model.specs.Volumes.{Volume}
-use Rattle.volume_model.specs.Nodes.{node_by}
-use Rattle.tree_model.specs.Effects.{renewed}
-use Rattle.plan_model.specs.Attributes.{RewritesValues}
-use Rattle.plan_model.specs.Parts.{ReplacesAttrs}
-use Rattle.plan_model.specs.Informed.{is_info, with_info}
-use Rattle.record_writer.specs.NormalLaws.{FitsByRoom}
-use Rattle.record_streams.specs.Fitting.{FitsButRoom}
+use Rattle.plan_changes.specs.volume_model.Volumes.{Volume}
+use Rattle.plan_changes.specs.volume_model.Nodes.{node_by}
+use Rattle.plan_changes.specs.tree_model.Effects.{renewed}
+use Rattle.plan_changes.specs.plan_model.Attributes.{RewritesValues}
+use Rattle.plan_changes.specs.plan_model.Parts.{ReplacesAttrs}
+use Rattle.plan_changes.specs.plan_model.Informed.{is_info, with_info}
+use Rattle.plan_changes.specs.record_writer.NormalLaws.{FitsByRoom}
+use Rattle.plan_changes.specs.record_streams.Fitting.{FitsButRoom}
 use Rattle.record_times.specs.Times.{timed_info, timed_record, new_id, new_info}
 
 -- Where the record had standard information, nothing else is written anew; where it had none, one attribute comes and nothing goes. It has

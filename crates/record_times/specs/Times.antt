@@ -13,7 +13,7 @@ use Rattle.record_model.specs.Records.{Record}
 use Rattle.record_model.specs.StdValues.{std_info_over}
 use Rattle.record_model.specs.Values.{is_standard_information}
 use Rattle.state_model.specs.Files.{has_type, no_info}
-use Rattle.plan_model.specs.Informed.{is_info}
+use Rattle.plan_changes.specs.plan_model.Informed.{is_info}
 
 -- modified and changed at the stamp
 abbrev pub timed_info : ℕ → StdInfo → StdInfo

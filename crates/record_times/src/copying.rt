@@ -5,8 +5,8 @@ ghost use Rattle.disk_model.specs.Bytes.{written};
 ghost use Rattle.record_times.specs.Times.{timed_value, timed_form, timed_attr};
 
 use disk_model::put_u64;
-use file_record::FileRec;
 use host_base::Bytes;
+use plan_changes::FileRec;
 use record_model::{Attr, OwnForm};
 use std::alloc::AllocError;
 

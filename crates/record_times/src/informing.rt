@@ -3,12 +3,10 @@ ghost use Rattle.std.specs.Prelude.{◌≡◌, ◌≤◌, ◌^◌, insert, IfOk,
 ghost use Rattle.disk_model.specs.Bytes.{zeros};
 ghost use Rattle.record_times.specs.Times.{place_of_type, has_id, first_free, or_zero, free_id, new_id, with_next_id, new_value, new_info};
 
-use file_record::FileRec;
 use host_base::Bytes;
+use plan_changes::{FileRec, FixedValue, push_copies};
 use record_model::{Attr, Head, OwnForm, RecHead, STANDARD_INFORMATION, StdInfo};
-use record_writer::push_copies;
 use std::alloc::{AllocError, Global};
-use std_values::FixedValue;
 use utf16_name::Units;
 
 // The bytes of new standard information.

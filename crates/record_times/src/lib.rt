@@ -11,6 +11,11 @@ mod informing;
 mod laws;
 mod timing;
 
-pub use file_record::FileRec;
 pub use laws::times_are_set;
+pub use plan_changes::{
+    DirPlace, DirPlan, DraftFault, FileRec, NodesPlan, data_extents, file, lay_out, placed_fits,
+    put_bytes, put_file, put_moved, put_resized, reads_the_table, sized, state_has_bitmap,
+    stream_of, valued_record, written_file,
+};
+pub use state_model::Extents;
 pub use timing::timed_record;

@@ -1,15 +1,14 @@
 //! Records whose files changed at a time.
 ghost use Rattle.std.specs.Prelude.{◌≡◌, ◌++◌, IfOk};
-ghost use Rattle.plan_model.specs.Informed.{is_info};
+ghost use Rattle.plan_changes.specs.plan_model.Informed.{is_info};
 ghost use Rattle.state_model.specs.Files.{has_type};
-ghost use Rattle.record_streams.specs.Fitting.{FitsButRoom};
+ghost use Rattle.plan_changes.specs.record_streams.Fitting.{FitsButRoom};
 ghost use Rattle.record_times.specs.Times.{timed_attrs, timed_record};
 
 use crate::copying::push_timed;
 use crate::informing::with_info;
-use file_record::FileRec;
+use plan_changes::{FileRec, push_copy};
 use record_model::{Attr, STANDARD_INFORMATION};
-use record_writer::push_copy;
 use std::alloc::{AllocError, Global};
 
 fn is_info(attr: &Attr) -> bool

@@ -1,1 +1,2 @@
+pub use Rattle.record_streams.proofs as record_streams
 pub mod Valued

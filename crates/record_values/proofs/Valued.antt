@@ -2,15 +2,15 @@
 use Rattle.std.proofs.Common.{◌≡◌, ◌≢◌, ◌⊎◌, ℕ, ◌+◌, ◌*◌, ◌/◌, ◌<◌, ◌≤◌, ◌^◌, Bool, true, false, List, [], ◌∷◌, length, Some, refl, sym, ap, ◌∙◌, subst, arith}
 use Rattle.std.specs.Prelude.{All, IsTrue, filter}
 use Rattle.std.proofs.lemmas.List.Elements.{All-head, All-filter}
-use Rattle.record_model.specs.declared.attribute.Attr.{Attr}
-use Rattle.record_model.specs.declared.attribute.OwnForm.{OwnForm}
-use Rattle.record_model.specs.declared.attribute.OwnForm.TheVariants.{Resident, Mapped}
-use Rattle.record_model.specs.Attributes.{FitsForm}
-use Rattle.record_model.specs.Records.{Record}
-use Rattle.record_writer.specs.Normal.{normal, normal_form}
-use Rattle.record_writer.proofs.Measures.{length-spelling}
-use Rattle.state_model.specs.declared.stream.Stream.TheVariants.{Held}
-use Rattle.state_model.specs.Streams.{is_attribute_of, attributes_of, sorted_into, joined, stream_of}
+use Rattle.record_streams.specs.record_model.declared.attribute.Attr.{Attr}
+use Rattle.record_streams.specs.record_model.declared.attribute.OwnForm.{OwnForm}
+use Rattle.record_streams.specs.record_model.declared.attribute.OwnForm.TheVariants.{Resident, Mapped}
+use Rattle.record_streams.specs.record_model.Attributes.{FitsForm}
+use Rattle.record_streams.specs.record_model.Records.{Record}
+use Rattle.record_streams.specs.record_writer.Normal.{normal, normal_form}
+use Rattle.record_streams.proofs.record_writer.Measures.{length-spelling}
+use Rattle.record_streams.specs.state_model.declared.stream.Stream.TheVariants.{Held}
+use Rattle.record_streams.specs.state_model.Streams.{is_attribute_of, attributes_of, sorted_into, joined, stream_of}
 use Rattle.record_streams.specs.Placing.{with_stream}
 use Rattle.record_streams.specs.Fitting.{IsShort, FitsButRoom, IsPlaceable}
 use Rattle.record_streams.proofs.Spelled.{lawful_by}

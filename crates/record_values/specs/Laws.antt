@@ -1,9 +1,9 @@
 -- What a record keeps in which a stream has another value.
 use Rattle.std.specs.Prelude.{◌≡◌, ◌≢◌, ◌⊎◌, ℕ, List, [], ◌∷◌, Some}
-use Rattle.record_model.specs.declared.attribute.Attr.{Attr}
-use Rattle.record_model.specs.Records.{Record}
-use Rattle.state_model.specs.declared.stream.Stream.TheVariants.{Held}
-use Rattle.state_model.specs.Streams.{attributes_of, stream_of}
+use Rattle.record_streams.specs.record_model.declared.attribute.Attr.{Attr}
+use Rattle.record_streams.specs.record_model.Records.{Record}
+use Rattle.record_streams.specs.state_model.declared.stream.Stream.TheVariants.{Held}
+use Rattle.record_streams.specs.state_model.Streams.{attributes_of, stream_of}
 use Rattle.record_values.specs.Values.{valued_attr, valued_record}
 
 -- The stream has this value, in one attribute. Other streams stay.

@@ -1,2 +1,3 @@
+pub use Rattle.record_streams.specs as record_streams
 pub mod Values
 pub mod Laws

@@ -1,10 +1,10 @@
 -- A file record in which a stream that stands there has another value.
 use Rattle.std.specs.Prelude.{ℕ, List, [], ◌∷◌}
-use Rattle.record_model.specs.declared.attribute.Attr.{Attr}
-use Rattle.record_model.specs.declared.attribute.OwnForm.{OwnForm}
-use Rattle.record_model.specs.declared.attribute.OwnForm.TheVariants.{Resident, Mapped}
-use Rattle.record_model.specs.Records.{Record}
-use Rattle.state_model.specs.Streams.{attributes_of}
+use Rattle.record_streams.specs.record_model.declared.attribute.Attr.{Attr}
+use Rattle.record_streams.specs.record_model.declared.attribute.OwnForm.{OwnForm}
+use Rattle.record_streams.specs.record_model.declared.attribute.OwnForm.TheVariants.{Resident, Mapped}
+use Rattle.record_streams.specs.record_model.Records.{Record}
+use Rattle.record_streams.specs.state_model.Streams.{attributes_of}
 use Rattle.record_streams.specs.Placing.{with_stream}
 
 -- whether a value is one that an index lists; one that stood in clusters isn't

@@ -4,6 +4,6 @@
 mod laws;
 mod values;
 
-pub use file_record::FileRec;
 pub use laws::values_are_put;
+pub use record_streams::{FileRec, placed_fits, placed_record};
 pub use values::valued_record;

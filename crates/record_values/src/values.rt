@@ -1,15 +1,11 @@
 //! File records in which a stream has another value.
 ghost use Rattle.std.specs.Prelude.{◌≡◌, ◌≤◌, ◌^◌, IfOk, length};
-ghost use Rattle.stream_map.specs.Attributes.{behind};
+ghost use Rattle.record_streams.specs.stream_map.Attributes.{behind};
 ghost use Rattle.record_streams.specs.Fitting.{FitsButRoom, IsPlaceable};
 ghost use Rattle.record_values.specs.Values.{indexed_of, valued_attr, valued_first, valued_record};
 
-use file_record::FileRec;
-use host_base::{Bytes, Memory};
-use record_model::{Attr, OwnForm};
-use record_streams::{copied, with_stream};
+use record_streams::{Attr, Bytes, FileRec, Memory, OwnForm, attributes_of, copied, with_stream};
 use std::alloc::{AllocError, Global};
-use stream_map::attributes_of;
 
 // Whether an index lists the value, as its attribute says.
 fn indexed_of(form: &OwnForm) -> u8

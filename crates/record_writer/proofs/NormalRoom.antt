@@ -5,7 +5,7 @@ use Rattle.std.specs.List.{concat, AllByRecursion, range_with_len}
 use Rattle.std.proofs.lemmas.Bool.{cases_lt}
 use Rattle.std.proofs.lemmas.List.{append_assoc, length-append, length-take, length-drop, get_or_append_left, get_or-append-add, get_or_past}
 use Rattle.std.proofs.lemmas.List.Elements.{All-from_recursion, All-map, All-weaker}
-use Rattle.host_base.specs.Answers.{◌>>=◌, needs}
+use Rattle.disk_model.specs.host_base.Answers.{◌>>=◌, needs}
 use Rattle.disk_model.specs.Numbers.{field}
 use Rattle.disk_model.specs.Bytes.{AreBytes}
 use Rattle.disk_model.proofs.Fields.{field-lt}
@@ -19,7 +19,7 @@ use Rattle.record_model.proofs.Answering.{steps_from_ok, needs_from_ok}
 use Rattle.record_model.proofs.UnitBytes.{length-filled}
 use Rattle.record_model.proofs.Records.{AreBytes-attribute_bytes, attribute_bytes_short, read_is_table}
 use Rattle.record_model.proofs.Shapes.{is_shaped}
-use Rattle.state_model.specs.Loads.{has_all_pairs, whole_record}
+use Rattle.file_record.specs.state_model.Loads.{has_all_pairs, whole_record}
 use Rattle.record_writer.specs.Edits.{form_length}
 use Rattle.record_writer.specs.Normal.{normal_form, normal}
 use Rattle.record_writer.specs.NormalLaws.{FitsByRoom, NormalFitsByRoom}

@@ -11,7 +11,7 @@ use Rattle.record_model.specs.declared.attribute.Head.{Head}
 use Rattle.record_model.specs.declared.attribute.Sizes.{Sizes}
 use Rattle.record_model.specs.Attributes.{unit_bytes, filled, held_bytes, front_spelling, sizes_spelling, resident_spelling, mapped_spelling}
 use Rattle.record_model.proofs.UnitBytes.{length-unit_bytes, length-zeros, length-filled}
-use Rattle.attr_codec.specs.Writing.{resident_attr, mapped_attr}
+use Rattle.file_record.specs.attr_codec.Writing.{resident_attr, mapped_attr}
 
 -- these n bytes were put from a place on
 pub record IsPut (at n : ℕ) (x old new : List ℕ) : Type 0 where

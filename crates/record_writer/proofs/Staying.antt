@@ -4,7 +4,7 @@ use Rattle.std.specs.Prelude.{find, filter_map}
 use Rattle.std.specs.List.{list_all, flat_map, cons_option}
 use Rattle.std.specs.Cmp.Lexicographic.{pointwise}
 use Rattle.std.proofs.lemmas.Bool.{and_parts, and_from}
-use Rattle.host_base.specs.declared.file_ref.FileRef.{FileRef}
+use Rattle.disk_model.specs.host_base.declared.file_ref.FileRef.{FileRef}
 use Rattle.record_model.specs.declared.attribute.Head.{Head}
 use Rattle.record_model.specs.declared.attribute.Sizes.{Sizes}
 use Rattle.record_model.specs.declared.attribute.OwnForm.{OwnForm}
@@ -16,9 +16,9 @@ use Rattle.record_model.specs.Attributes.{filled}
 use Rattle.record_model.specs.Pairs.{runs_of}
 use Rattle.record_model.specs.Records.{Record}
 use Rattle.record_model.specs.Constants.{standard_information, file_name}
-use Rattle.state_model.specs.Files.{form_link, attr_link, form_info, attr_info, record_links, reference, info_of}
-use Rattle.state_model.specs.Loads.{span, form_fits, has_fitting_pairs, has_all_pairs}
-use Rattle.state_model.specs.Streams.{form_first, first_vcn, is_attribute_of, with_attribute, sorted_into, attributes_of, runs_or, form_runs, attribute_runs, form_stream, joined, stream_of}
+use Rattle.file_record.specs.state_model.Files.{form_link, attr_link, form_info, attr_info, record_links, reference, info_of}
+use Rattle.file_record.specs.state_model.Loads.{span, form_fits, has_fitting_pairs, has_all_pairs}
+use Rattle.file_record.specs.state_model.Streams.{form_first, first_vcn, is_attribute_of, with_attribute, sorted_into, attributes_of, runs_or, form_runs, attribute_runs, form_stream, joined, stream_of}
 use Rattle.record_writer.specs.Normal.{normal_form, normal}
 use Rattle.record_writer.specs.NormalLaws.{AttrStays, RecordStays, NormalStandsForSame}
 use Rattle.record_writer.proofs.Filling.{filled_read}

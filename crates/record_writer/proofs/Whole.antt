@@ -3,7 +3,7 @@ use Rattle.std.proofs.Common.{◌≡◌, ℕ, ◌+◌, ◌-◌, ◌<◌, List, [
 use Rattle.std.specs.List.{flat_map}
 use Rattle.std.proofs.lemmas.List.{append-nil, length-append, take_more}
 use Rattle.std.proofs.lemmas.Grind.{flat_map-append}
-use Rattle.host_base.specs.FileRefs.{packed}
+use Rattle.disk_model.specs.host_base.FileRefs.{packed}
 use Rattle.disk_model.specs.Numbers.{spell}
 use Rattle.disk_model.specs.Bytes.{written, zeros}
 use Rattle.disk_model.proofs.Fields.{length-spell}
@@ -15,7 +15,7 @@ use Rattle.record_model.specs.Attributes.{front_spelling, form_spelling, spellin
 use Rattle.record_model.specs.Records.{Record, spelled_bytes, used_of, head_spelling, record_spelling, FitsRecord}
 use Rattle.record_model.proofs.UnitBytes.{length-zeros}
 use Rattle.record_model.proofs.RecordSpelling.{length-spellings, length-record_spelling}
-use Rattle.attr_codec.specs.Writing.{resident_attr, mapped_attr}
+use Rattle.file_record.specs.attr_codec.Writing.{resident_attr, mapped_attr}
 use Rattle.record_writer.proofs.Pieces.{first, joined, next, all_put}
 
 -- ---- attributes

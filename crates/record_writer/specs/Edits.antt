@@ -1,6 +1,6 @@
 -- A record with one attribute more, or one less, or of a list of attributes, and the bytes of an attribute's spelling.
 use Rattle.std.specs.Prelude.{ℕ, ◌+◌, ◌*◌, List, insert, remove, nat_le, length, Result, Ok}
-use Rattle.host_base.specs.Answers.{◌>>=◌, needs}
+use Rattle.disk_model.specs.host_base.Answers.{◌>>=◌, needs}
 use Rattle.disk_model.specs.Bytes.{up8}
 use Rattle.record_model.specs.declared.attribute.OwnForm.{OwnForm}
 use Rattle.record_model.specs.declared.attribute.OwnForm.TheVariants.{Resident, Mapped}

@@ -1,6 +1,6 @@
 -- Where an error of an edit comes from.
 use Rattle.std.specs.Prelude.{ℕ}
-use Rattle.host_base.specs.Answers.{Cause, refused, no_memory}
+use Rattle.disk_model.specs.host_base.Answers.{Cause, refused, no_memory}
 use Rattle.record_writer.specs.declared.fault.RoomFault.{RoomFault}
 use Rattle.record_writer.specs.declared.fault.RoomFault.TheVariants.{Full, Memory}
 

@@ -1,15 +1,15 @@
 -- What a normal attribute stands for, and which normal records have a spelling.
 use Rattle.std.specs.Prelude.{◌≡◌, ◌↔◌, ℕ, ◌<◌, ◌≤◌, ◌^◌, true, List, [], ◌∷◌, length, Some, Ok, All}
-use Rattle.host_base.specs.declared.file_ref.FileRef.{FileRef}
+use Rattle.disk_model.specs.host_base.declared.file_ref.FileRef.{FileRef}
 use Rattle.disk_model.specs.Bytes.{AreBytes}
 use Rattle.record_model.specs.declared.attribute.Attr.{Attr}
 use Rattle.record_model.specs.declared.runs.Run.{Run}
 use Rattle.record_model.specs.Attributes.{filled, FitsAttr}
 use Rattle.record_model.specs.Pairs.{runs_of}
 use Rattle.record_model.specs.Records.{Record, record_at, used_of, FitsRecord}
-use Rattle.state_model.specs.Files.{attr_link, attr_info, record_links, info_of}
-use Rattle.state_model.specs.Loads.{has_fitting_pairs, has_all_pairs, whole_record}
-use Rattle.state_model.specs.Streams.{stream_of}
+use Rattle.file_record.specs.state_model.Files.{attr_link, attr_info, record_links, info_of}
+use Rattle.file_record.specs.state_model.Loads.{has_fitting_pairs, has_all_pairs, whole_record}
+use Rattle.file_record.specs.state_model.Streams.{stream_of}
 use Rattle.record_writer.specs.Normal.{normal, normal_record}
 
 -- filled pairs are read as the same runs: bytes behind the end are free

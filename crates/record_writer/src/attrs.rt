@@ -3,14 +3,13 @@ ghost use Rattle.std.specs.List.{flat_map};
 ghost use Rattle.disk_model.specs.Bytes.{written};
 ghost use Rattle.record_model.specs.Attributes.{spelling, resident_spelling, mapped_spelling, held_bytes, FitsAttr};
 ghost use Rattle.record_model.specs.Records.{spelled_bytes};
-ghost use Rattle.attr_codec.specs.Writing.{resident_attr, mapped_attr};
+ghost use Rattle.file_record.specs.attr_codec.Writing.{resident_attr, mapped_attr};
 ghost use Rattle.record_writer.specs.Edits.{whole_length};
 
 use crate::lengths::{header_length, spelled_length, up8};
 use crate::putting::{Front, put_filled, put_front, put_name, put_sizes};
-use attr_codec::{write_mapped, write_resident};
-use disk_model::{put_bytes, put_u16, put_u32};
-use host_base::Memory;
+use disk_model::{Memory, put_bytes, put_u16, put_u32};
+use file_record::{write_mapped, write_resident};
 use record_model::{Attr, Head, OwnForm, Sizes};
 
 // Puts the spelling of an attribute whose value stands in the record.

@@ -1,11 +1,10 @@
 //! Copies of attributes.
 ghost use Rattle.std.specs.Prelude.{◌≡◌, ◌++◌, [], ◌∷◌, IfOk, OnOk};
 
-use file_record::FileRec;
-use host_base::Bytes;
+use disk_model::Bytes;
+use file_record::{FileRec, Units};
 use record_model::{Attr, OwnForm};
 use std::alloc::{AllocError, Global};
-use utf16_name::Units;
 
 // A copy of the form, in memory linear in its bytes.
 pub fn copy_form(alloc: Global, form: &OwnForm) -> Result<OwnForm, AllocError>

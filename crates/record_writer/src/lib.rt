@@ -19,12 +19,13 @@ mod written;
 
 pub use attrs::write_attr;
 pub use copying::{push_copies, push_copy};
+pub use disk_model::{Bytes, Memory};
 pub use fault::RoomFault;
-pub use file_record::FileRec;
+pub use file_record::{FileRec, RecFault, Units};
 pub use laws::{
     filled_pairs_are_read, normal_has_spelling, normal_stands_for_same, written_is_read,
 };
 pub use normal::normal_attr;
-pub use record_model::{Attr, OwnForm, RecHead};
+pub use record_model::{Attr, OwnForm, RecHead, Run, Sizes};
 pub use spelled::attr_has_spelling;
 pub use written::WrittenRecord;

@@ -4,10 +4,10 @@ ghost use Rattle.record_model.specs.Attributes.{filled};
 ghost use Rattle.record_writer.specs.Normal.{normal_form, normal};
 
 use crate::copying::copy_form;
-use host_base::{Bytes, Memory};
+use disk_model::{Bytes, Memory};
+use file_record::Units;
 use record_model::{Attr, OwnForm};
 use std::alloc::{AllocError, Global};
-use utf16_name::Units;
 
 // Attributes in the form in which this project writes them.
 

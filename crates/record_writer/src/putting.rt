@@ -1,7 +1,7 @@
 ghost use Rattle.std.specs.Prelude.{◌≡◌, ◌+◌, ◌*◌, ◌<◌, ◌≤◌, ◌^◌, [], length};
 ghost use Rattle.disk_model.specs.Bytes.{up8, zeros, written};
 ghost use Rattle.record_model.specs.Attributes.{unit_bytes, filled, held_bytes, front_spelling, sizes_spelling};
-ghost use Rattle.attr_codec.specs.Writing.{resident_attr};
+ghost use Rattle.file_record.specs.attr_codec.Writing.{resident_attr};
 
 use crate::lengths::up8;
 use disk_model::{put_bytes, put_u16, put_u32, put_u64};

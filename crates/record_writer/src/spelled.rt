@@ -5,8 +5,8 @@ ghost use Rattle.record_model.specs.Records.{used_of, TypesRise, FitsHead};
 ghost use Rattle.record_writer.specs.Fitting.{FitsPlace, rise_from};
 
 use crate::lengths::spelled_length;
+use file_record::is_file_name;
 use record_model::{Attr, END_MARK, FILE_NAME, OwnForm, RecHead, STANDARD_INFORMATION, Sizes};
-use std_values::is_file_name;
 
 // A file has a number below this one.
 const NUMBERS: u64 = 0x1_0000_0000_0000;

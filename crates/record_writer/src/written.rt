@@ -1,5 +1,5 @@
 ghost use Rattle.std.specs.Prelude.{◌≡◌, ◌↔◌, IsTrue, ◌+◌, ◌*◌, ◌<◌, ◌≤◌, ◌^◌, ◌++◌, length, take, drop, insert, IfOk};
-ghost use Rattle.host_base.specs.Answers.{Gives};
+ghost use Rattle.disk_model.specs.host_base.Answers.{Gives};
 ghost use Rattle.disk_model.specs.Bytes.{written};
 ghost use Rattle.record_model.specs.Attributes.{FitsAttr};
 ghost use Rattle.record_model.specs.Records.{Record, used_of, head_spelling, record_spelling, IsFileRecord, FitsHead, FitsRecord};
@@ -12,9 +12,8 @@ use crate::fault::RoomFault;
 use crate::lengths::{spelled_bytes, spelled_length};
 use crate::putting::put_zeros;
 use crate::spelled::{each_fits, fits_head, have_room, types_rise};
-use disk_model::{put_bytes, put_u16, put_u32, put_u64};
+use disk_model::{Memory, put_bytes, put_u16, put_u32, put_u64};
 use file_record::FileRec;
-use host_base::Memory;
 use record_model::{Attr, END_MARK, RecHead};
 use std::alloc::{AllocError, Global};
 

@@ -2,19 +2,19 @@
 use Rattle.std.proofs.Common.{◌≡◌, ℕ, ◌+◌, ◌*◌, ◌^◌, ◌%◌, ◌/◌, ◌-◌, ◌<◌, ◌≤◌, Bool, true, false, cond, eqb, List, [], ◌∷◌, ◌++◌, length, map, inl, inr, Option, Some, None, refl, sym, ap, ◌∙◌, subst, arith}
 use Rattle.std.specs.Prelude.{not, count_by, IfSome, min, Result, Ok, Err}
 use Rattle.std.proofs.lemmas.List.{length-append, length-map}
-use Rattle.record_model.specs.declared.runs.Run.{Run}
-use Rattle.record_model.specs.Pairs.{cluster_limit, Follow, HasSpelling}
-use Rattle.state_model.specs.Clusters.{IsClusterSize}
-use Rattle.state_model.specs.Loads.{total_clusters}
-use Rattle.space_model.specs.Choosing.{with_run, chosen}
-use Rattle.space_model.specs.Laws.{AreFree, clusters_of}
-use Rattle.space_model.proofs.Lawful.{chosen_are_free}
-use Rattle.space_model.proofs.Searching.{length-with_run}
-use Rattle.stream_runs.specs.Runs.{touches, in_front, merged, moved, grown, front}
-use Rattle.stream_runs.proofs.Merging.{both, total-merged, total-append, total-moved, follow-merged, follow-grown}
+use Rattle.record_streams.specs.record_model.declared.runs.Run.{Run}
+use Rattle.record_streams.specs.record_model.Pairs.{cluster_limit, Follow, HasSpelling}
+use Rattle.record_streams.specs.state_model.Clusters.{IsClusterSize}
+use Rattle.record_streams.specs.state_model.Loads.{total_clusters}
+use Rattle.plan_space.specs.space_model.Choosing.{with_run, chosen}
+use Rattle.plan_space.specs.space_model.Laws.{AreFree, clusters_of}
+use Rattle.plan_space.proofs.space_model.Lawful.{chosen_are_free}
+use Rattle.plan_space.proofs.space_model.Searching.{length-with_run}
+use Rattle.record_streams.specs.stream_runs.Runs.{touches, in_front, merged, moved, grown, front}
+use Rattle.record_streams.proofs.stream_runs.Merging.{both, total-merged, total-append, total-moved, follow-merged, follow-grown}
 use Rattle.record_streams.proofs.Spelled.{total_few}
-use Rattle.stream_runs.proofs.Parts.{total-front, follow-front}
-use Rattle.stream_runs.proofs.Places.{cut, kept, front_whole, front_cut}
+use Rattle.record_streams.proofs.stream_runs.Parts.{total-front, follow-front}
+use Rattle.record_streams.proofs.stream_runs.Places.{cut, kept, front_whole, front_cut}
 use Rattle.std.proofs.lemmas.Bool.{cases_lt}
 
 same_total : (runs : List Run) → clusters_of runs ≡ total_clusters runs

@@ -1,10 +1,10 @@
 -- A stream that takes more clusters, or gives back those past a size.
 use Rattle.std.specs.Prelude.{◌≡◌, ℕ, ◌+◌, ◌-◌, ◌*◌, ◌/◌, min, List, []}
-use Rattle.record_model.specs.declared.runs.Run.{Run}
-use Rattle.record_model.specs.Records.{Record}
-use Rattle.state_model.specs.declared.stream.Extents.{Extents}
-use Rattle.state_model.specs.Loads.{total_clusters}
-use Rattle.stream_runs.specs.Runs.{merged, front, back, grown}
+use Rattle.record_streams.specs.record_model.declared.runs.Run.{Run}
+use Rattle.record_streams.specs.record_model.Records.{Record}
+use Rattle.record_streams.specs.state_model.declared.stream.Extents.{Extents}
+use Rattle.record_streams.specs.state_model.Loads.{total_clusters}
+use Rattle.record_streams.specs.stream_runs.Runs.{merged, front, back, grown}
 use Rattle.record_streams.specs.Placing.{placed_record}
 use Rattle.resized_streams.specs.declared.resized.Resized.{Resized}
 

@@ -1,20 +1,18 @@
 //! A value that leaves its record for clusters.
 ghost use Rattle.std.specs.Prelude.{◌≡◌, ◌<◌, ◌≤◌, ◌^◌, Err, None, All, IfOk, IfErr, OnErr, not, count_by, length};
-ghost use Rattle.record_model.specs.Pairs.{cluster_limit, HasSpelling};
+ghost use Rattle.record_streams.specs.record_model.Pairs.{cluster_limit, HasSpelling};
 ghost use Rattle.record_streams.specs.Fitting.{FitsButRoom, IsPlaceable};
-ghost use Rattle.space_model.specs.Choosing.{chosen, with_runs};
+ghost use Rattle.plan_space.specs.space_model.Choosing.{chosen, with_runs};
 ghost use Rattle.plan_space.specs.Choices.{TakesFirst};
 ghost use Rattle.plan_space.specs.declared.fault.SpaceFault.TheVariants.{Short, Memory as no_memory};
-ghost use Rattle.stream_runs.specs.Runs.{IsNear};
-ghost use Rattle.state_model.specs.Loads.{total_clusters};
+ghost use Rattle.record_streams.specs.stream_runs.Runs.{IsNear};
+ghost use Rattle.record_streams.specs.state_model.Loads.{total_clusters};
 ghost use Rattle.resized_streams.specs.Resizing.{clusters_for, unplaced, IsGrown};
 
 use crate::resized::Resized;
 use crate::resizing::{clusters_for, grow};
-use file_record::FileRec;
-use plan_space::{FreeBits, SpaceFault};
-use record_model::Runs;
-use state_model::{ClusterSize, Extents};
+use plan_space::{FreeBits, Runs, SpaceFault};
+use record_streams::{ClusterSize, Extents, FileRec};
 use std::alloc::Global;
 
 // A value of so many bytes as a stream that has no clusters yet.

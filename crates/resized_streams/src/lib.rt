@@ -7,11 +7,12 @@ mod resized;
 mod resizing;
 mod sizing;
 
-pub use file_record::FileRec;
 pub use leaving::to_clusters;
-pub use plan_space::{FreeBits, SpaceFault};
-pub use record_model::Run;
+pub use plan_space::{FreeBits, Run, SpaceFault};
+pub use record_streams::{
+    Bytes, ClusterSize, Extents, FileRec, Memory, RecFault, RoomFault, WrittenRecord, block_at,
+    no_extents, normal_attr, push_copies, push_copy, stream_of,
+};
 pub use resized::Resized;
 pub use resizing::{cut, grow};
 pub use sizing::sized;
-pub use state_model::{ClusterSize, Extents};

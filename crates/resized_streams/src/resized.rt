@@ -1,6 +1,5 @@
-use file_record::FileRec;
-use record_model::Run;
-use state_model::Extents;
+use plan_space::Run;
+use record_streams::{Extents, FileRec};
 
 /// A file of which a stream took clusters or gave some back: its record, the stream's clusters and
 /// sizes, and the runs that came and went.

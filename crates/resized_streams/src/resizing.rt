@@ -1,23 +1,21 @@
 //! A stream that takes more clusters, or gives back those past a size.
 ghost use Rattle.std.specs.Prelude.{◌≡◌, ◌+◌, ◌/◌, ◌<◌, ◌≤◌, ◌^◌, Err, All, IfOk, IfErr, IfSome, OnErr, not, count_by, length};
-ghost use Rattle.record_model.specs.Pairs.{cluster_limit, HasSpelling};
+ghost use Rattle.record_streams.specs.record_model.Pairs.{cluster_limit, HasSpelling};
 ghost use Rattle.record_streams.specs.Fitting.{FitsButRoom, IsPlaceable};
-ghost use Rattle.space_model.specs.Choosing.{chosen, with_runs};
+ghost use Rattle.plan_space.specs.space_model.Choosing.{chosen, with_runs};
 ghost use Rattle.plan_space.specs.Choices.{TakesFirst};
 ghost use Rattle.plan_space.specs.declared.fault.SpaceFault.TheVariants.{Short, Memory as no_memory};
-ghost use Rattle.state_model.specs.Loads.{total_clusters};
-ghost use Rattle.stream_runs.specs.Runs.{last_cluster, IsNear};
+ghost use Rattle.record_streams.specs.state_model.Loads.{total_clusters};
+ghost use Rattle.record_streams.specs.stream_runs.Runs.{last_cluster, IsNear};
 ghost use Rattle.resized_streams.specs.Resizing.{allocated_in, lengthened, clusters_for, shortened, IsGrown, IsCut};
 
 use crate::resized::Resized;
-use file_record::FileRec;
-use host_base::Memory;
-use plan_space::{FreeBits, SpaceFault, choose};
-use record_model::{Run, Runs};
-use record_streams::placed_record;
-use state_model::{ClusterSize, Extents};
+use plan_space::{FreeBits, Run, Runs, SpaceFault, choose};
+use record_streams::{
+    ClusterSize, Extents, FileRec, Memory, back, front, grown, last_cluster, merged, placed_record,
+    total_clusters,
+};
 use std::alloc::Global;
-use stream_runs::{back, front, grown, last_cluster, merged, total_clusters};
 
 // A stream with these clusters, all of them allocated.
 fn allocated_in(per: ClusterSize, runs: Runs, real: u64, initialised: u64) -> Extents

@@ -1,15 +1,12 @@
 //! A stream in clusters that has other sizes.
 ghost use Rattle.std.specs.Prelude.{◌≡◌, ◌≤◌, ◌^◌, IfOk, length};
-ghost use Rattle.record_model.specs.Pairs.{HasSpelling};
+ghost use Rattle.record_streams.specs.record_model.Pairs.{HasSpelling};
 ghost use Rattle.record_streams.specs.Fitting.{FitsButRoom, IsPlaceable};
 ghost use Rattle.resized_streams.specs.Resizing.{with_sizes, IsSized};
 
 use crate::resized::Resized;
-use file_record::FileRec;
-use host_base::Memory;
-use record_model::Runs;
-use record_streams::placed_record;
-use state_model::{ClusterSize, Extents};
+use plan_space::Runs;
+use record_streams::{ClusterSize, Extents, FileRec, Memory, placed_record};
 use std::alloc::{AllocError, Global};
 
 // The stream with these sizes.

@@ -10,18 +10,18 @@ use Rattle.disk_model.proofs.Frames.{same_block-is}
 use Rattle.sector_device.specs.Disks.{Disk, MayLeave, SeesDisk, newest, seen, is_within}
 use Rattle.sector_device.specs.Moments.{Changes}
 use Rattle.sector_device.specs.KeptLaws.{none_in}
-use Rattle.log_area.specs.Areas.{page_first}
+use Rattle.member_states.specs.log_area.Areas.{page_first}
 use Rattle.store_model.specs.Geometry.{SectorBytes}
 use Rattle.store_model.specs.Stores.{Store}
 use Rattle.store_model.proofs.Told.{true≢false}
 use Rattle.store_model.proofs.Known.{own_content, is_in as within_from}
 use Rattle.store_claims.specs.Windows.{StoreWindow}
-use Rattle.stream_laws.proofs.Changing.{has_sectors}
-use Rattle.ring_laws.proofs.SeenDisks.{not_own}
-use Rattle.txn_model.specs.Values.{StoreFacts, own_of}
-use Rattle.txn_laws.specs.Standing.{StandsBehind}
-use Rattle.txn_laws.specs.Windows.{HasWindow}
-use Rattle.txn_core.specs.Views.{present_on}
+use Rattle.member_states.proofs.stream_laws.Changing.{has_sectors}
+use Rattle.member_states.proofs.ring_laws.SeenDisks.{not_own}
+use Rattle.member_states.specs.txn_model.Values.{StoreFacts, own_of}
+use Rattle.member_states.specs.txn_laws.Standing.{StandsBehind}
+use Rattle.member_states.specs.txn_laws.Windows.{HasWindow}
+use Rattle.found_stays.specs.txn_core.Views.{present_on}
 use Rattle.found_stays.specs.Found.{is_in, HasFirst, StaysFirst, BearsFirst}
 
 or_later : (t u : Bool) → u ≡ true → (t || u) ≡ true

@@ -1,3 +1,4 @@
+pub use Rattle.found_stays.proofs as found_stays
 pub mod Finding
 pub mod Storing
 pub mod Putting

@@ -14,31 +14,31 @@ use Rattle.log_page.specs.declared.places.LogPlace.{LogPlace}
 use Rattle.block_view.specs.Changes.{content_after}
 use Rattle.volume_model.specs.Indexes.{void_block}
 use Rattle.volume_model.specs.Volumes.{Volume}
-use Rattle.stream_laws.proofs.Rewriting.{volume_parts}
-use Rattle.map_change.specs.Parts.{MapParts, map_of}
+use Rattle.member_states.proofs.stream_laws.Rewriting.{volume_parts}
+use Rattle.member_states.specs.map_change.Parts.{MapParts, map_of}
 use Rattle.store_model.specs.Geometry.{SectorBytes}
 use Rattle.store_model.specs.Logs.{has_update}
 use Rattle.store_model.specs.Stores.{Store}
 use Rattle.store_claims.specs.Windows.{StoreWindow}
-use Rattle.txn_model.specs.Values.{StoreFacts}
-use Rattle.txn_model.specs.Calls.{begun_facts, changed_facts}
-use Rattle.txn_laws.specs.Standing.{StandsBehind}
-use Rattle.txn_laws.specs.Windows.{HasWindow}
-use Rattle.txn_state.specs.States.{StateOf, facts_of, IsStore}
-use Rattle.txn_core.specs.Sizes.{sized_present}
-use Rattle.txn_core.specs.Views.{present_on}
-use Rattle.txn_core.proofs.PresentSizes.{keeps_sizes}
-use Rattle.state_store.specs.declared.fault.PutFault.{PutFault}
-use Rattle.state_store.specs.Volumes.{geometry_of}
-use Rattle.state_store.specs.Changes.{MayLog, LeadsOn}
-use Rattle.state_store.specs.Logging.{ChangedBy, StoppedBy}
-use Rattle.state_store.specs.Windows.{AfterPutting}
-use Rattle.state_store.specs.Puts.{PutsContent, PutsMap, PutsFacts, PutsOver}
-use Rattle.state_store.specs.Spared.{PutsSpare}
-use Rattle.state_store.proofs.Lists.{each_weaker, same_after, unchanged_by}
-use Rattle.state_store.proofs.Following.{next_map}
-use Rattle.state_store.proofs.Sparing.{place_stays}
-use Rattle.state_store.proofs.Outcomes.{shows_state}
+use Rattle.member_states.specs.txn_model.Values.{StoreFacts}
+use Rattle.member_states.specs.txn_model.Calls.{begun_facts, changed_facts}
+use Rattle.member_states.specs.txn_laws.Standing.{StandsBehind}
+use Rattle.member_states.specs.txn_laws.Windows.{HasWindow}
+use Rattle.member_states.specs.txn_state.States.{StateOf, facts_of, IsStore}
+use Rattle.found_stays.specs.txn_core.Sizes.{sized_present}
+use Rattle.found_stays.specs.txn_core.Views.{present_on}
+use Rattle.found_stays.proofs.txn_core.PresentSizes.{keeps_sizes}
+use Rattle.member_states.specs.state_store.declared.fault.PutFault.{PutFault}
+use Rattle.member_states.specs.state_store.Volumes.{geometry_of}
+use Rattle.member_states.specs.state_store.Changes.{MayLog, LeadsOn}
+use Rattle.member_states.specs.state_store.Logging.{ChangedBy, StoppedBy}
+use Rattle.member_states.specs.state_store.Windows.{AfterPutting}
+use Rattle.member_states.specs.state_store.Puts.{PutsContent, PutsMap, PutsFacts, PutsOver}
+use Rattle.member_states.specs.state_store.Spared.{PutsSpare}
+use Rattle.member_states.proofs.state_store.Lists.{each_weaker, same_after, unchanged_by}
+use Rattle.member_states.proofs.state_store.Following.{next_map}
+use Rattle.member_states.proofs.state_store.Sparing.{place_stays}
+use Rattle.member_states.proofs.state_store.Outcomes.{shows_state}
 use Rattle.member_states.specs.Members.{VolumeBase, MembersAre}
 use Rattle.member_states.specs.Leads.{VolumesMayPut}
 use Rattle.member_states.specs.Puts.{PutsKeepStates}

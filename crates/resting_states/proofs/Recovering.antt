@@ -11,16 +11,16 @@ use Rattle.sector_device.specs.Moments.{Changes, MayLeaveNow, LeftSince}
 use Rattle.log_page.specs.declared.places.LogPlace.{LogPlace}
 use Rattle.volume_model.specs.Indexes.{void_block}
 use Rattle.volume_model.specs.Volumes.{Volume}
-use Rattle.map_change.specs.Parts.{MapParts}
-use Rattle.state_blocks.specs.Needing.{IsNeeded, AgreeOnNeeded, NeededIsAll}
+use Rattle.member_states.specs.map_change.Parts.{MapParts}
+use Rattle.member_states.specs.state_blocks.Needing.{IsNeeded, AgreeOnNeeded, NeededIsAll}
 use Rattle.store_model.specs.Geometry.{SectorBytes}
 use Rattle.store_claims.specs.Windows.{StoreWindow}
 use Rattle.flush_policy.specs.declared.facts.StoreStep.{StoreStep}
 use Rattle.flush_policy.specs.declared.facts.StoreStep.TheVariants.{SealPage, WritePage, SyncDevice, WriteOut, BeginCheckpoint, WriteRestart}
-use Rattle.txn_model.specs.Values.{StoreFacts}
-use Rattle.txn_laws.specs.Windows.{HasWindow, AfterWrite, MovesTo, During, Simulates}
-use Rattle.txn_core.specs.Steps.{AfterTurn}
-use Rattle.state_store.specs.Volumes.{geometry_of}
+use Rattle.member_states.specs.txn_model.Values.{StoreFacts}
+use Rattle.member_states.specs.txn_laws.Windows.{HasWindow, AfterWrite, MovesTo, During, Simulates}
+use Rattle.found_stays.specs.txn_core.Steps.{AfterTurn}
+use Rattle.member_states.specs.state_store.Volumes.{geometry_of}
 use Rattle.member_states.specs.Members.{VolumeBase, MemberIs, MembersAre}
 use Rattle.member_states.specs.Crashes.{RecoversToState, CrashesLeaveStates}
 use Rattle.member_states.specs.Steps.{StepsKeepStates}

@@ -9,18 +9,18 @@ use Rattle.disk_model.specs.Sectors.{sector_of, same_block}
 use Rattle.disk_model.specs.Content.{content_of}
 use Rattle.sector_device.specs.Disks.{Disk, SeesDisk, seen}
 use Rattle.sector_device.specs.Moments.{Changes}
-use Rattle.map_change.specs.Parts.{MapParts}
-use Rattle.state_blocks.specs.Needing.{IsNeeded}
+use Rattle.member_states.specs.map_change.Parts.{MapParts}
+use Rattle.member_states.specs.state_blocks.Needing.{IsNeeded}
 use Rattle.store_model.specs.Geometry.{SectorBytes}
 use Rattle.store_model.specs.Volumes.{is_known}
-use Rattle.txn_model.specs.Values.{StoreFacts, own_of}
-use Rattle.txn_laws.specs.Windows.{HasStart}
-use Rattle.txn_state.specs.States.{StateOf, facts_of}
-use Rattle.txn_core.specs.Sizes.{sized_present}
-use Rattle.txn_core.specs.Views.{present_on}
-use Rattle.txn_core.proofs.PresentSizes.{keeps_sizes}
-use Rattle.turn_laws.specs.Sparing.{IsSpared}
-use Rattle.state_store.specs.Volumes.{geometry_of}
+use Rattle.member_states.specs.txn_model.Values.{StoreFacts, own_of}
+use Rattle.member_states.specs.txn_laws.Windows.{HasStart}
+use Rattle.member_states.specs.txn_state.States.{StateOf, facts_of}
+use Rattle.found_stays.specs.txn_core.Sizes.{sized_present}
+use Rattle.found_stays.specs.txn_core.Views.{present_on}
+use Rattle.found_stays.proofs.txn_core.PresentSizes.{keeps_sizes}
+use Rattle.member_states.specs.turn_laws.Sparing.{IsSpared}
+use Rattle.member_states.specs.state_store.Volumes.{geometry_of}
 use Rattle.member_states.specs.Members.{IsSafe}
 use Rattle.member_states.specs.Starts.{StartsHoldStates}
 use Rattle.resting_states.specs.Resting.{base_from, RestsBy}

@@ -15,30 +15,30 @@ use Rattle.disk_model.proofs.Frames.{length-written, same_block-is}
 use Rattle.log_model.specs.declared.entry.Act.{Act}
 use Rattle.log_model.specs.declared.entry.Act.TheVariants.{Commit}
 use Rattle.log_model.specs.Logs.{is_in_grid}
-use Rattle.log_area.specs.declared.restart.SentRestart.{SentRestart}
-use Rattle.log_area.specs.Areas.{LogAreaOf, ring_size, place_at, appended, sealed_area, named_area}
+use Rattle.member_states.specs.log_area.declared.restart.SentRestart.{SentRestart}
+use Rattle.member_states.specs.log_area.Areas.{LogAreaOf, ring_size, place_at, appended, sealed_area, named_area}
 use Rattle.store_model.specs.Volumes.{is_free}
 use Rattle.store_model.proofs.Told.{true≢false, rivals_both}
 use Rattle.flush_policy.specs.declared.facts.StoreStep.{StoreStep}
 use Rattle.flush_policy.specs.declared.facts.StoreStep.TheVariants.{SealPage, WritePage, SyncDevice, WriteOut, BeginCheckpoint, WriteRestart}
-use Rattle.device_blocks.specs.declared.word.CheckWord.{CheckWord}
-use Rattle.device_blocks.specs.declared.word.CheckWord.TheVariants.{Unread, Missing, Stands, Sent}
-use Rattle.txn_model.specs.Values.{StoreFacts, own_of}
-use Rattle.txn_model.specs.Pieces.{next_entry, log_with, ends_with}
-use Rattle.txn_model.specs.Calls.{begun_facts, body_before, change_acts, changed_facts, committed_facts, written_facts, front_lsn, is_ready}
-use Rattle.txn_state.specs.States.{KeepsNumbers, HasSize, IsStore}
-use Rattle.txn_state.proofs.Changes.{changed_blocks}
-use Rattle.txn_state.proofs.OnLog.{GoesOn, log_goes_on, seal_goes_on, on_log_goes_on, on_log_stays, numbers_begin}
-use Rattle.txn_state.proofs.Stores.{committed_keeps, given_up_keeps, noted_keeps, synced_keeps, ready_parts, written_out_keeps, sent_out_keeps, again_keeps}
-use Rattle.txn_core.specs.Calls.{is_spelled, out_facts}
-use Rattle.txn_core.specs.Changes.{IsPresent}
-use Rattle.txn_core.specs.Steps.{MayTurn, HasTurned}
-use Rattle.state_store.specs.Changes.{MayLog, AreBeside, AreApart}
-use Rattle.state_store.specs.Rooms.{MayNumber}
-use Rattle.state_store.specs.Logging.{ChangedBy, StoppedBy}
-use Rattle.state_store.specs.declared.fault.PutFault.{PutFault}
-use Rattle.state_store.specs.Puts.{PutsFacts}
-use Rattle.state_store.proofs.Lists.{each_weaker, each_both}
+use Rattle.member_states.specs.device_blocks.declared.word.CheckWord.{CheckWord}
+use Rattle.member_states.specs.device_blocks.declared.word.CheckWord.TheVariants.{Unread, Missing, Stands, Sent}
+use Rattle.member_states.specs.txn_model.Values.{StoreFacts, own_of}
+use Rattle.member_states.specs.txn_model.Pieces.{next_entry, log_with, ends_with}
+use Rattle.member_states.specs.txn_model.Calls.{begun_facts, body_before, change_acts, changed_facts, committed_facts, written_facts, front_lsn, is_ready}
+use Rattle.member_states.specs.txn_state.States.{KeepsNumbers, HasSize, IsStore}
+use Rattle.member_states.proofs.txn_state.Changes.{changed_blocks}
+use Rattle.member_states.proofs.txn_state.OnLog.{GoesOn, log_goes_on, seal_goes_on, on_log_goes_on, on_log_stays, numbers_begin}
+use Rattle.member_states.proofs.txn_state.Stores.{committed_keeps, given_up_keeps, noted_keeps, synced_keeps, ready_parts, written_out_keeps, sent_out_keeps, again_keeps}
+use Rattle.found_stays.specs.txn_core.Calls.{is_spelled, out_facts}
+use Rattle.found_stays.specs.txn_core.Changes.{IsPresent}
+use Rattle.found_stays.specs.txn_core.Steps.{MayTurn, HasTurned}
+use Rattle.member_states.specs.state_store.Changes.{MayLog, AreBeside, AreApart}
+use Rattle.member_states.specs.state_store.Rooms.{MayNumber}
+use Rattle.member_states.specs.state_store.Logging.{ChangedBy, StoppedBy}
+use Rattle.member_states.specs.state_store.declared.fault.PutFault.{PutFault}
+use Rattle.member_states.specs.state_store.Puts.{PutsFacts}
+use Rattle.member_states.proofs.state_store.Lists.{each_weaker, each_both}
 
 -- ---- one change
 

@@ -11,22 +11,22 @@ use Rattle.sector_device.specs.Moments.{Changes}
 use Rattle.sector_device.specs.Sectors.{IsDiskOf}
 use Rattle.log_page.specs.declared.places.LogPlace.{LogPlace}
 use Rattle.volume_model.specs.Indexes.{void_block}
-use Rattle.map_change.specs.Parts.{MapParts}
+use Rattle.member_states.specs.map_change.Parts.{MapParts}
 use Rattle.store_model.specs.Geometry.{SectorBytes}
 use Rattle.store_claims.specs.Windows.{StoreWindow}
 use Rattle.flush_policy.specs.declared.facts.StoreStep.{StoreStep}
-use Rattle.state_blocks.specs.Needing.{AgreeOnNeeded, NeededIsAll}
-use Rattle.txn_model.specs.Values.{StoreFacts}
-use Rattle.txn_state.specs.States.{facts_of, IsStore}
-use Rattle.txn_core.specs.Seen.{Seen}
-use Rattle.txn_core.specs.Sizes.{sized_present}
-use Rattle.txn_core.specs.Steps.{AfterTurn}
-use Rattle.txn_core.specs.Views.{present_on, present_content}
-use Rattle.txn_core.proofs.PresentSizes.{keeps_sizes}
-use Rattle.turn_laws.specs.Sparing.{StepSpares, StepsSpare}
-use Rattle.state_store.specs.Volumes.{geometry_of, IsStateOf, SparesState}
-use Rattle.state_store.specs.Turns.{AgreeWhereKnown, TurnsVolume}
-use Rattle.state_store.proofs.Turned.{turns_volume}
+use Rattle.member_states.specs.state_blocks.Needing.{AgreeOnNeeded, NeededIsAll}
+use Rattle.member_states.specs.txn_model.Values.{StoreFacts}
+use Rattle.member_states.specs.txn_state.States.{facts_of, IsStore}
+use Rattle.found_stays.specs.txn_core.Seen.{Seen}
+use Rattle.found_stays.specs.txn_core.Sizes.{sized_present}
+use Rattle.found_stays.specs.txn_core.Steps.{AfterTurn}
+use Rattle.found_stays.specs.txn_core.Views.{present_on, present_content}
+use Rattle.found_stays.proofs.txn_core.PresentSizes.{keeps_sizes}
+use Rattle.member_states.specs.turn_laws.Sparing.{StepSpares, StepsSpare}
+use Rattle.member_states.specs.state_store.Volumes.{geometry_of, IsStateOf, SparesState}
+use Rattle.member_states.specs.state_store.Turns.{AgreeWhereKnown, TurnsVolume}
+use Rattle.member_states.proofs.state_store.Turned.{turns_volume}
 use Rattle.member_states.specs.Members.{VolumeBase, void_body, MembersAre}
 use Rattle.member_states.specs.Steps.{StepsKeepStates}
 use Rattle.member_states.proofs.Recovering.{void_is}

@@ -4,16 +4,16 @@ use Rattle.host_base.specs.declared.outside.Failed.{Failed}
 use Rattle.disk_model.specs.declared.block.Change.{Change}
 use Rattle.disk_model.specs.Sectors.{sector_of}
 use Rattle.sector_device.specs.Moments.{Changes, MayLeaveNow, LeftSince}
-use Rattle.map_change.specs.Parts.{MapParts}
+use Rattle.member_states.specs.map_change.Parts.{MapParts}
 use Rattle.store_model.specs.Geometry.{SectorBytes}
 use Rattle.store_claims.specs.Windows.{StoreWindow}
 use Rattle.flush_policy.specs.declared.facts.StoreStep.{StoreStep}
-use Rattle.txn_model.specs.Values.{StoreFacts}
-use Rattle.txn_laws.specs.Windows.{Simulates}
-use Rattle.txn_state.specs.States.{StateOf}
-use Rattle.txn_core.specs.Steps.{AfterTurn}
-use Rattle.state_store.specs.declared.fault.PutFault.{PutFault}
-use Rattle.state_store.specs.Puts.{PutsOver}
+use Rattle.member_states.specs.txn_model.Values.{StoreFacts}
+use Rattle.member_states.specs.txn_laws.Windows.{Simulates}
+use Rattle.member_states.specs.txn_state.States.{StateOf}
+use Rattle.found_stays.specs.txn_core.Steps.{AfterTurn}
+use Rattle.member_states.specs.state_store.declared.fault.PutFault.{PutFault}
+use Rattle.member_states.specs.state_store.Puts.{PutsOver}
 use Rattle.member_states.specs.Crashes.{RecoversToState}
 use Rattle.found_stays.specs.Found.{StaysOver}
 use Rattle.resting_states.specs.Resting.{base_from, Rests}

@@ -1,3 +1,4 @@
+pub use Rattle.found_stays.specs as found_stays
 pub mod Resting
 pub mod Puts
 pub mod Turns

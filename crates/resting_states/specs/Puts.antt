@@ -2,17 +2,17 @@
 use Rattle.std.specs.Prelude.{◌≡◌, ℕ, All, List, Option, Some, Result}
 use Rattle.disk_model.specs.declared.block.Change.{Change}
 use Rattle.sector_device.specs.Moments.{Changes}
-use Rattle.map_change.specs.Parts.{MapParts}
+use Rattle.member_states.specs.map_change.Parts.{MapParts}
 use Rattle.store_model.specs.Geometry.{SectorBytes}
 use Rattle.store_claims.specs.Windows.{StoreWindow}
-use Rattle.txn_laws.specs.Windows.{HasWindow}
-use Rattle.txn_state.specs.States.{StateOf, facts_of}
-use Rattle.txn_core.specs.Views.{present_on}
-use Rattle.state_store.specs.declared.fault.PutFault.{PutFault}
-use Rattle.state_store.specs.Changes.{MayLog, AreApart, LeadsOn}
-use Rattle.state_store.specs.Rooms.{MayNumber}
-use Rattle.state_store.specs.Windows.{AfterPutting}
-use Rattle.state_store.specs.Puts.{PutsOver}
+use Rattle.member_states.specs.txn_laws.Windows.{HasWindow}
+use Rattle.member_states.specs.txn_state.States.{StateOf, facts_of}
+use Rattle.found_stays.specs.txn_core.Views.{present_on}
+use Rattle.member_states.specs.state_store.declared.fault.PutFault.{PutFault}
+use Rattle.member_states.specs.state_store.Changes.{MayLog, AreApart, LeadsOn}
+use Rattle.member_states.specs.state_store.Rooms.{MayNumber}
+use Rattle.member_states.specs.state_store.Windows.{AfterPutting}
+use Rattle.member_states.specs.state_store.Puts.{PutsOver}
 use Rattle.resting_states.specs.Resting.{Rests, RestsBy}
 
 -- A volume may be asked to put these changes: the next transaction has a number, each change lies on the device, no two are of one block or of rivals, and they lead on from what is read.

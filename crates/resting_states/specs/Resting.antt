@@ -3,14 +3,14 @@ use Rattle.std.specs.Prelude.{◌≡◌, ℕ, ◌^◌, ◌≤◌, List, Option, 
 use Rattle.disk_model.specs.Content.{content_of}
 use Rattle.sector_device.specs.Moments.{Changes}
 use Rattle.sector_device.specs.Sectors.{IsDiskOf}
-use Rattle.map_change.specs.Parts.{MapParts}
+use Rattle.member_states.specs.map_change.Parts.{MapParts}
 use Rattle.store_model.specs.Geometry.{SectorBytes}
 use Rattle.store_claims.specs.Windows.{StoreWindow}
-use Rattle.txn_model.specs.Values.{StoreFacts}
-use Rattle.txn_state.specs.States.{facts_of, IsStore}
-use Rattle.txn_core.specs.Seen.{Seen}
-use Rattle.txn_core.specs.Views.{present_on}
-use Rattle.state_store.specs.Volumes.{geometry_of, IsStateOf}
+use Rattle.member_states.specs.txn_model.Values.{StoreFacts}
+use Rattle.member_states.specs.txn_state.States.{facts_of, IsStore}
+use Rattle.found_stays.specs.txn_core.Seen.{Seen}
+use Rattle.found_stays.specs.txn_core.Views.{present_on}
+use Rattle.member_states.specs.state_store.Volumes.{geometry_of, IsStateOf}
 use Rattle.member_states.specs.Members.{VolumeBase, base_of}
 use Rattle.member_states.specs.Leads.{IsAtRest}
 use Rattle.found_stays.specs.Found.{StaysFirst, AreOffLog}

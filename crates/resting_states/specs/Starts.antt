@@ -7,17 +7,17 @@ use Rattle.disk_model.specs.Content.{content_of}
 use Rattle.sector_device.specs.Disks.{Disk, SeesDisk, seen}
 use Rattle.sector_device.specs.Moments.{Changes}
 use Rattle.sector_device.specs.Sectors.{IsDiskOf}
-use Rattle.map_change.specs.Parts.{MapParts}
-use Rattle.state_blocks.specs.Needing.{IsNeeded}
+use Rattle.member_states.specs.map_change.Parts.{MapParts}
+use Rattle.member_states.specs.state_blocks.Needing.{IsNeeded}
 use Rattle.store_model.specs.Geometry.{SectorBytes}
 use Rattle.store_model.specs.Volumes.{is_known}
 use Rattle.store_claims.specs.Windows.{StoreWindow}
-use Rattle.txn_model.specs.Values.{own_of}
-use Rattle.txn_model.specs.Calls.{first_facts}
-use Rattle.txn_laws.specs.Windows.{ClaimsAll, HasStart}
-use Rattle.txn_state.specs.States.{StateOf, facts_of, IsStore}
-use Rattle.txn_core.specs.Views.{present_on}
-use Rattle.state_store.specs.Volumes.{IsStateOf, SparesState}
+use Rattle.member_states.specs.txn_model.Values.{own_of}
+use Rattle.member_states.specs.txn_model.Calls.{first_facts}
+use Rattle.member_states.specs.txn_laws.Windows.{ClaimsAll, HasStart}
+use Rattle.member_states.specs.txn_state.States.{StateOf, facts_of, IsStore}
+use Rattle.found_stays.specs.txn_core.Views.{present_on}
+use Rattle.member_states.specs.state_store.Volumes.{IsStateOf, SparesState}
 use Rattle.found_stays.specs.Found.{StaysFirst, AreOffLog}
 use Rattle.resting_states.specs.Resting.{RestsBy}
 

@@ -3,14 +3,14 @@ use Rattle.std.specs.Prelude.{◌≡◌, ℕ, ◌≤◌, List, Option, Some, Res
 use Rattle.host_base.specs.declared.outside.Failed.{Failed}
 use Rattle.sector_device.specs.Moments.{Changes}
 use Rattle.volume_model.specs.Volumes.{Volume}
-use Rattle.map_change.specs.Parts.{MapParts}
+use Rattle.member_states.specs.map_change.Parts.{MapParts}
 use Rattle.store_model.specs.Geometry.{SectorBytes}
 use Rattle.store_claims.specs.Windows.{StoreWindow}
 use Rattle.flush_policy.specs.declared.facts.StoreStep.{StoreStep}
-use Rattle.txn_model.specs.Values.{StoreFacts}
-use Rattle.txn_state.specs.States.{facts_of}
-use Rattle.txn_core.specs.Seen.{Seen, TakesStep}
-use Rattle.txn_core.specs.Steps.{MayTurn, HasTurned, TurnsDevice, AfterTurn}
+use Rattle.member_states.specs.txn_model.Values.{StoreFacts}
+use Rattle.member_states.specs.txn_state.States.{facts_of}
+use Rattle.found_stays.specs.txn_core.Seen.{Seen, TakesStep}
+use Rattle.found_stays.specs.txn_core.Steps.{MayTurn, HasTurned, TurnsDevice, AfterTurn}
 use Rattle.member_states.specs.Members.{VolumeBase, MemberIs, MembersAre}
 use Rattle.found_stays.specs.Found.{StaysOver}
 use Rattle.resting_states.specs.Resting.{Rests, RestsOn}

@@ -5,12 +5,10 @@ ghost use Rattle.resting_states.specs.Starts.{StartsRest};
 ghost use Rattle.resting_states.specs.Turns.{TurnsAddNone, TurnsRest};
 
 use member_states::{
-    crashes_leave_states, puts_keep_states, starts_hold_states, steps_keep_states, volumes_may_put,
+    crashes_leave_states, needed_is_all, puts_keep_states, puts_spare, starts_hold_states,
+    steps_keep_states, steps_spare, volumes_may_put,
 };
 use sector_device::Device;
-use state_blocks::needed_is_all;
-use state_store::puts_spare;
-use turn_laws::steps_spare;
 
 /// Law: a volume at rest rests behind changes that it is asked to put, with the map that it keeps
 /// then, whether they were put or not.

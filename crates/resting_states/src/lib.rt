@@ -6,4 +6,5 @@
 
 mod laws;
 
+pub use found_stays::steps_stay;
 pub use laws::{puts_rest, rests_recover, starts_rest, turns_add_none, turns_rest};

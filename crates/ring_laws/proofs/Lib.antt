@@ -1,3 +1,7 @@
+pub use Rattle.log_laws.proofs as log_laws
+pub use Rattle.log_laws.proofs.log_page
+pub use Rattle.store_model.proofs.fixup_record
+pub use Rattle.store_model.proofs.log_model
 pub mod Numbering
 pub mod LogSectors
 pub mod Mixing

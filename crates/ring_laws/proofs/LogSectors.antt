@@ -2,14 +2,14 @@
 use Rattle.std.proofs.Common.{◌≡◌, ◌≢◌, ◌⊎◌, ℕ, zero, suc, ◌+◌, ◌-◌, ◌*◌, ◌%◌, ◌<◌, ◌≤◌, Bool, true, false, List, ◌∷◌, ◌++◌, length, Option, Some, refl, sym, ap, ◌∙◌, inl, inr, append-nil, arith}
 use Rattle.std.specs.Prelude.{if◌then◌else◌, unwrap_or, nat_le, nat_lt, ◌&&◌}
 use Rattle.std.proofs.lemmas.Bool.{cases_lt, lt-leb, le-ltb}
-use Rattle.disk_model.specs.declared.block.BlockKind.TheVariants.{Plain}
-use Rattle.disk_model.specs.Sectors.{raw_from, sector_of}
-use Rattle.disk_model.specs.Content.{body_of, content_of}
-use Rattle.log_page.specs.declared.places.LogPlace.{LogPlace}
+use Rattle.log_reading.specs.disk_model.declared.block.BlockKind.TheVariants.{Plain}
+use Rattle.log_reading.specs.disk_model.Sectors.{raw_from, sector_of}
+use Rattle.log_reading.specs.disk_model.Content.{body_of, content_of}
+use Rattle.log_reading.specs.log_page.declared.places.LogPlace.{LogPlace}
 use Rattle.log_reading.specs.LogPages.{log_sector, sector_bytes, log_bytes, page_in}
 use Rattle.log_reading.specs.Rings.{IsRingPlace}
 use Rattle.log_reading.proofs.Bytes.{all_initialised}
-use Rattle.sector_device.specs.Disks.{Disk, is_within, put, IsBetween}
+use Rattle.store_model.specs.sector_device.Disks.{Disk, is_within, put, IsBetween}
 use Rattle.store_model.specs.Geometry.{SectorBytes}
 use Rattle.ring_laws.specs.PageBytes.{page_sector, raw_page, AreAlike}
 

@@ -4,18 +4,18 @@ use Rattle.std.specs.Prelude.{is_ok}
 use Rattle.std.proofs.lemmas.Bool.{cases_lt, and_parts, le-ltb}
 use Rattle.std.proofs.lemmas.List.{get_or_append_left, get_or-append_right, get_or-drop, get_or-take, ext_get_or, take_all}
 use Rattle.std.proofs.lemmas.List.FromFn.{get_or-map-range_with_len}
-use Rattle.disk_model.specs.Sectors.{raw_from, sector_of, zero_sector}
-use Rattle.disk_model.specs.Fixups.{array_at, last_word, fixup_of, restored, is_in_array}
-use Rattle.disk_model.proofs.Fields.{field_word}
-use Rattle.fixup_record.specs.Protecting.{word_byte, array_byte, protected_byte, protected_bytes}
-use Rattle.log_page.specs.declared.places.LogPlace.{LogPlace}
-use Rattle.log_page.specs.CheckWords.{IsCheckWord}
-use Rattle.log_page.specs.PageLaws.{IsPartWritten}
-use Rattle.log_page.specs.RecordPages.{is_record_page, is_whole_page}
-use Rattle.log_page.proofs.Mixed.{new_or_old}
-use Rattle.sector_device.specs.Sectors.{sector_in, sectors_of}
-use Rattle.sector_device.specs.WholeSectors.{length-sector_in, get_or-sectors_of}
-use Rattle.sector_device.proofs.SectorParts.{raw_from_is_part}
+use Rattle.log_reading.specs.disk_model.Sectors.{raw_from, sector_of, zero_sector}
+use Rattle.log_reading.specs.disk_model.Fixups.{array_at, last_word, fixup_of, restored, is_in_array}
+use Rattle.log_reading.proofs.disk_model.Fields.{field_word}
+use Rattle.store_model.specs.fixup_record.Protecting.{word_byte, array_byte, protected_byte, protected_bytes}
+use Rattle.log_reading.specs.log_page.declared.places.LogPlace.{LogPlace}
+use Rattle.log_reading.specs.log_page.CheckWords.{IsCheckWord}
+use Rattle.log_reading.specs.log_page.PageLaws.{IsPartWritten}
+use Rattle.log_reading.specs.log_page.RecordPages.{is_record_page, is_whole_page}
+use Rattle.log_laws.proofs.log_page.Mixed.{new_or_old}
+use Rattle.store_model.specs.sector_device.Sectors.{sector_in, sectors_of}
+use Rattle.store_model.specs.sector_device.WholeSectors.{length-sector_in, get_or-sectors_of}
+use Rattle.store_model.proofs.sector_device.SectorParts.{raw_from_is_part}
 use Rattle.store_model.specs.Geometry.{SectorBytes}
 use Rattle.ring_laws.specs.PageBytes.{page_sector, raw_page}
 use Rattle.ring_laws.proofs.LogSectors.{raw_shift}

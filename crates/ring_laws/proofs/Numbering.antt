@@ -4,9 +4,9 @@ use Rattle.std.specs.Prelude.{nat_le, nat_lt, ◌&&◌}
 use Rattle.std.proofs.lemmas.Bool.{cases_lt, eq-eqb, ne_eqb, le-leb, lt-ltb}
 use Rattle.std.proofs.lemmas.Nat.{div-add-mod', mod_below, div-mul-add, mod-mul-add}
 use Rattle.std.proofs.Math.Nat.{lt_of_mul-lt-mul_right, mul-le-mul_right, zero-div, zero-mod}
-use Rattle.log_page.specs.Places.{page_bytes, first_page, entries_at, place_bits, lap_of, offset_of, page_of, is_in_ring, page_after, lap_after}
-use Rattle.log_page.specs.LiveLogs.{start_in_page}
-use Rattle.log_page.proofs.PlacesFit.{log_fits, says_place}
+use Rattle.log_reading.specs.log_page.Places.{page_bytes, first_page, entries_at, place_bits, lap_of, offset_of, page_of, is_in_ring, page_after, lap_after}
+use Rattle.log_reading.specs.log_page.LiveLogs.{start_in_page}
+use Rattle.log_laws.proofs.log_page.PlacesFit.{log_fits, says_place}
 use Rattle.store_model.specs.Rings.{HasPlaces}
 use Rattle.ring_laws.specs.Numbers.{LogSession, ring_size, place_of_page, lap_of_page, lsn_of_page, IsInRing}
 

@@ -2,15 +2,15 @@
 use Rattle.std.proofs.Common.{◌≡◌, ◌≢◌, ◌⊎◌, ℕ, suc, ◌+◌, ◌-◌, ◌<◌, ◌≤◌, max, Bool, true, false, List, length, Option, Some, None, refl, sym, ap, ◌∙◌, subst, inl, inr, arith}
 use Rattle.std.specs.Prelude.{if◌then◌else◌, ◌&&◌, ◌||◌, is_none}
 use Rattle.std.proofs.lemmas.Bool.{cases_lt, eq-eqb, ne_eqb}
-use Rattle.log_page.specs.declared.places.LogPlace.{LogPlace}
-use Rattle.log_page.specs.declared.restart.Restart.{Restart}
-use Rattle.log_page.specs.Restarts.{restart_of, is_blank, is_emptied, FitsRestart}
-use Rattle.log_page.specs.RestartLaws.{HasRanges}
-use Rattle.log_page.specs.CheckWords.{IsCheckWord}
+use Rattle.log_reading.specs.log_page.declared.places.LogPlace.{LogPlace}
+use Rattle.log_reading.specs.log_page.declared.restart.Restart.{Restart}
+use Rattle.log_reading.specs.log_page.Restarts.{restart_of, is_blank, is_emptied, FitsRestart}
+use Rattle.log_reading.specs.log_page.RestartLaws.{HasRanges}
+use Rattle.log_reading.specs.log_page.CheckWords.{IsCheckWord}
 use Rattle.log_reading.specs.Rings.{IsRingPlace}
 use Rattle.log_reading.specs.Fronts.{chosen_in}
-use Rattle.sector_device.specs.Disks.{Disk, seen, settled, IsSized}
-use Rattle.sector_device.proofs.Images.{holds_seen}
+use Rattle.store_model.specs.sector_device.Disks.{Disk, seen, settled, IsSized}
+use Rattle.store_model.proofs.sector_device.Images.{holds_seen}
 use Rattle.store_model.specs.Geometry.{SectorBytes, CanLeave}
 use Rattle.store_model.specs.Rings.{newest_page, PlaceMayHold, Restarts, restart_place, synced_places, greater_page, chosen_page}
 use Rattle.store_model.specs.Rings.RestartStep.{sync_before, sync_after}

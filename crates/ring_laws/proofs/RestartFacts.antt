@@ -2,10 +2,10 @@
 use Rattle.std.proofs.Common.{◌≡◌, ◌≢◌, ◌⊎◌, ℕ, suc, ◌<◌, ◌≤◌, max, Bool, true, false, cond, List, [], ◌∷◌, Option, Some, None, Result, Ok, Err, refl, sym, ap, ◌∙◌, inl, inr, arith}
 use Rattle.std.specs.Prelude.{Contains, nat_lt, ◌==◌, ◌&&◌, ◌||◌, is_ok}
 use Rattle.std.proofs.lemmas.Bool.{cases_eq, cases_lt, eq-eqb, lt-ltb, le-ltb, ne_eqb, and_parts}
-use Rattle.disk_model.specs.Fixups.{fixup_of, restored}
-use Rattle.log_page.specs.declared.restart.Restart.{Restart}
-use Rattle.log_page.specs.declared.fault.PageFault.{PageFault}
-use Rattle.log_page.specs.Restarts.{is_restart_page, is_whole_restart, restart_of, is_newer, whole_one, chosen}
+use Rattle.log_reading.specs.disk_model.Fixups.{fixup_of, restored}
+use Rattle.log_reading.specs.log_page.declared.restart.Restart.{Restart}
+use Rattle.log_reading.specs.log_page.declared.fault.PageFault.{PageFault}
+use Rattle.log_reading.specs.log_page.Restarts.{is_restart_page, is_whole_restart, restart_of, is_newer, whole_one, chosen}
 use Rattle.store_model.specs.Rings.{PagePlaces, newest_page, PlaceMayHold, Restarts, restart_place, AreRestarts, greater_page}
 use Rattle.store_model.specs.Rings.RestartStep.{write_page, write_page_fails}
 use Rattle.store_model.proofs.Rings.{restarts-step}

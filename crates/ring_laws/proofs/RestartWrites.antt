@@ -2,17 +2,17 @@
 use Rattle.std.proofs.Common.{◌≡◌, ◌≢◌, ◌⊎◌, ℕ, zero, suc, ◌+◌, ◌-◌, ◌^◌, ◌<◌, ◌≤◌, Bool, true, false, cond, List, ◌∷◌, length, Option, Some, None, refl, sym, ap, ◌∙◌, subst, inl, inr, arith}
 use Rattle.std.specs.Prelude.{Contains}
 use Rattle.std.proofs.lemmas.Bool.{cases_Bool, cases_eq, cases_lt}
-use Rattle.disk_model.specs.Sectors.{sector_of}
-use Rattle.fixup_record.proofs.Protected.{length-protected}
-use Rattle.log_page.specs.declared.places.LogPlace.{LogPlace}
-use Rattle.log_page.specs.declared.restart.Restart.{Restart}
-use Rattle.log_page.specs.Restarts.{is_whole_restart, whole_one, restart_spelling, is_blank}
-use Rattle.log_page.proofs.Spelled.{length-restart_spelling}
-use Rattle.log_page.proofs.ReadAgain.{read_again}
-use Rattle.sector_device.specs.Sectors.{sector_in, sectors_of}
-use Rattle.sector_device.specs.WholeSectors.{length-sector_in, length-sectors_of}
-use Rattle.sector_device.specs.Disks.{Disk, MayHold, newest, seen, is_within, put, IsBetween}
-use Rattle.sector_device.proofs.Images.{between_holds}
+use Rattle.log_reading.specs.disk_model.Sectors.{sector_of}
+use Rattle.store_model.proofs.fixup_record.Protected.{length-protected}
+use Rattle.log_reading.specs.log_page.declared.places.LogPlace.{LogPlace}
+use Rattle.log_reading.specs.log_page.declared.restart.Restart.{Restart}
+use Rattle.log_reading.specs.log_page.Restarts.{is_whole_restart, whole_one, restart_spelling, is_blank}
+use Rattle.log_laws.proofs.log_page.Spelled.{length-restart_spelling}
+use Rattle.log_laws.proofs.log_page.ReadAgain.{read_again}
+use Rattle.store_model.specs.sector_device.Sectors.{sector_in, sectors_of}
+use Rattle.store_model.specs.sector_device.WholeSectors.{length-sector_in, length-sectors_of}
+use Rattle.store_model.specs.sector_device.Disks.{Disk, MayHold, newest, seen, is_within, put, IsBetween}
+use Rattle.store_model.proofs.sector_device.Images.{between_holds}
 use Rattle.store_model.specs.Geometry.{SectorBytes}
 use Rattle.store_model.specs.Rings.{PagePlaces, newest_page, PlaceMayHold, Restarts, restart_place}
 use Rattle.store_model.proofs.Known.{is_in}

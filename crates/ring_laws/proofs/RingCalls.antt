@@ -4,17 +4,17 @@ use Rattle.std.specs.Prelude.{Contains}
 use Rattle.std.proofs.lemmas.Bool.{cases_Bool, cases_lt}
 use Rattle.std.proofs.lemmas.List.{get_or-drop}
 use Rattle.std.proofs.Math.Nat.{add-mod_left}
-use Rattle.log_model.specs.declared.entry.Entry.{Entry}
-use Rattle.log_page.specs.declared.places.LogPlace.{LogPlace}
-use Rattle.log_page.specs.Places.{first_page, lap_of}
-use Rattle.log_page.specs.RecordPages.{is_whole_page}
-use Rattle.log_page.specs.CheckWords.{IsCheckWord}
-use Rattle.log_page.specs.PageSpellings.{MakePage}
-use Rattle.log_page.specs.LiveLogs.{said_lsn}
+use Rattle.store_model.specs.log_model.declared.entry.Entry.{Entry}
+use Rattle.log_reading.specs.log_page.declared.places.LogPlace.{LogPlace}
+use Rattle.log_reading.specs.log_page.Places.{first_page, lap_of}
+use Rattle.log_reading.specs.log_page.RecordPages.{is_whole_page}
+use Rattle.log_reading.specs.log_page.CheckWords.{IsCheckWord}
+use Rattle.log_reading.specs.log_page.PageSpellings.{MakePage}
+use Rattle.log_reading.specs.log_page.LiveLogs.{said_lsn}
 use Rattle.log_laws.proofs.Fresh.{whole_says}
 use Rattle.log_reading.specs.Rings.{IsRingPlace}
-use Rattle.sector_device.specs.Disks.{Disk, MayHold, newest, seen, settled, IsSized}
-use Rattle.sector_device.proofs.Images.{holds_seen, settled_holds}
+use Rattle.store_model.specs.sector_device.Disks.{Disk, MayHold, newest, seen, settled, IsSized}
+use Rattle.store_model.proofs.sector_device.Images.{holds_seen, settled_holds}
 use Rattle.store_model.specs.Geometry.{SectorBytes}
 use Rattle.store_model.specs.Rings.{newest_page, PlaceMayHold, Ring, HasPlaces, synced_places}
 use Rattle.store_model.specs.Rings.RingStep.{sync_ring, free}

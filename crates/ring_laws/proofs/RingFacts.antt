@@ -6,16 +6,16 @@ use Rattle.std.specs.Cmp.Lexicographic.{pointwise}
 use Rattle.std.proofs.lemmas.Bool.{cases_lt, eq-eqb, ne_eqb, eqb-true}
 use Rattle.std.proofs.lemmas.Nat.{le-div}
 use Rattle.std.proofs.Math.Nat.{div-mul-le_self}
-use Rattle.disk_model.specs.Numbers.{field}
-use Rattle.disk_model.proofs.Fields.{field-take}
-use Rattle.log_page.specs.declared.places.LogPlace.{LogPlace}
-use Rattle.log_page.specs.Places.{page_bytes, first_page}
-use Rattle.log_page.specs.RecordPages.{record_signature}
-use Rattle.log_page.specs.LiveLogs.{said_lsn}
+use Rattle.log_reading.specs.disk_model.Numbers.{field}
+use Rattle.log_reading.proofs.disk_model.Fields.{field-take}
+use Rattle.log_reading.specs.log_page.declared.places.LogPlace.{LogPlace}
+use Rattle.log_reading.specs.log_page.Places.{page_bytes, first_page}
+use Rattle.log_reading.specs.log_page.RecordPages.{record_signature}
+use Rattle.log_reading.specs.log_page.LiveLogs.{said_lsn}
 use Rattle.log_reading.specs.Rings.{IsRingPlace}
-use Rattle.sector_device.specs.Sectors.{sector_in}
-use Rattle.sector_device.specs.Disks.{Disk, newest, seen, MayHold}
-use Rattle.sector_device.proofs.Images.{holds_seen}
+use Rattle.store_model.specs.sector_device.Sectors.{sector_in}
+use Rattle.store_model.specs.sector_device.Disks.{Disk, newest, seen, MayHold}
+use Rattle.store_model.proofs.sector_device.Images.{holds_seen}
 use Rattle.store_model.specs.Geometry.{SectorBytes}
 use Rattle.store_model.specs.Rings.{PagePlaces, Ring, is_page, HasPlaces, IsRing, PutsPage}
 use Rattle.store_model.specs.Rings.RingStep.{write_fails, write}

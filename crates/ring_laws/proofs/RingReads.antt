@@ -2,14 +2,14 @@
 use Rattle.std.proofs.Common.{◌≡◌, ℕ, zero, suc, ◌+◌, ◌-◌, ◌<◌, ◌≤◌, Bool, true, false, cond, List, [], ◌∷◌, ◌++◌, length, take, drop, get_or, Option, Some, None, refl, sym, ap, ◌∙◌, subst, inl, inr, arith}
 use Rattle.std.specs.Prelude.{if◌then◌else◌}
 use Rattle.std.proofs.lemmas.Bool.{cases_Bool, cases_lt}
-use Rattle.log_model.specs.declared.entry.Entry.{Entry}
-use Rattle.log_page.specs.declared.restart.Restart.{Restart}
-use Rattle.log_page.specs.Places.{first_page, entries_at, lap_of, page_of, page_after, lap_after}
-use Rattle.log_page.specs.RecordPages.{Reading, no_reading, is_whole_page, page_reading}
-use Rattle.log_page.specs.LiveLogs.{followed_by, log_from, start_in_page, live_log, said_lsn, greatest_lsn, lap_above, next_lap}
+use Rattle.store_model.specs.log_model.declared.entry.Entry.{Entry}
+use Rattle.log_reading.specs.log_page.declared.restart.Restart.{Restart}
+use Rattle.log_reading.specs.log_page.Places.{first_page, entries_at, lap_of, page_of, page_after, lap_after}
+use Rattle.log_reading.specs.log_page.RecordPages.{Reading, no_reading, is_whole_page, page_reading}
+use Rattle.log_reading.specs.log_page.LiveLogs.{followed_by, log_from, start_in_page, live_log, said_lsn, greatest_lsn, lap_above, next_lap}
 use Rattle.log_laws.specs.NextLaps.{IsSaid}
 use Rattle.log_laws.proofs.Greatest.{greatest_found}
-use Rattle.sector_device.specs.Disks.{Disk}
+use Rattle.store_model.specs.sector_device.Disks.{Disk}
 use Rattle.store_model.specs.Geometry.{SectorBytes, CanLeave}
 use Rattle.store_model.specs.Rings.{PlaceMayHold, MayLeavePages, Ring, is_page, read_to, entries_on, read_from}
 use Rattle.store_model.proofs.Rings.{reads_durable, reads_sent}

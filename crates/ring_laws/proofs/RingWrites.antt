@@ -2,20 +2,20 @@
 use Rattle.std.proofs.Common.{◌≡◌, ◌≢◌, ◌⊎◌, ℕ, suc, ◌+◌, ◌-◌, ◌^◌, ◌<◌, ◌≤◌, max, Bool, true, false, cond, List, ◌∷◌, length, Option, Some, None, refl, sym, ap, ◌∙◌, subst, inl, inr, arith}
 use Rattle.std.specs.Prelude.{Contains, is_ok}
 use Rattle.std.proofs.lemmas.Bool.{cases_eq, cases_lt, eq-eqb, ne_eqb}
-use Rattle.disk_model.specs.Sectors.{sector_of}
-use Rattle.disk_model.specs.Fixups.{fixup_of}
-use Rattle.fixup_record.proofs.Protected.{length-protected}
-use Rattle.log_model.specs.declared.entry.Entry.{Entry}
-use Rattle.log_page.specs.Places.{entries_at, lap_of}
-use Rattle.log_page.specs.RecordPages.{is_whole_page, page_reading}
-use Rattle.log_page.specs.PageSpellings.{page_spelling, end_lsn, IsPageAgain}
-use Rattle.log_page.specs.LiveLogs.{said_lsn}
-use Rattle.log_page.proofs.PageAgain.{page_size, page_again}
-use Rattle.log_page.proofs.Mixed.{other_lap_shows}
-use Rattle.sector_device.specs.Sectors.{sector_in, sectors_of}
-use Rattle.sector_device.specs.WholeSectors.{length-sector_in, length-sectors_of}
-use Rattle.sector_device.specs.Disks.{Disk, MayHold, newest, seen, is_within, put, IsBetween}
-use Rattle.sector_device.proofs.Images.{between_holds}
+use Rattle.log_reading.specs.disk_model.Sectors.{sector_of}
+use Rattle.log_reading.specs.disk_model.Fixups.{fixup_of}
+use Rattle.store_model.proofs.fixup_record.Protected.{length-protected}
+use Rattle.store_model.specs.log_model.declared.entry.Entry.{Entry}
+use Rattle.log_reading.specs.log_page.Places.{entries_at, lap_of}
+use Rattle.log_reading.specs.log_page.RecordPages.{is_whole_page, page_reading}
+use Rattle.log_reading.specs.log_page.PageSpellings.{page_spelling, end_lsn, IsPageAgain}
+use Rattle.log_reading.specs.log_page.LiveLogs.{said_lsn}
+use Rattle.log_laws.proofs.log_page.PageAgain.{page_size, page_again}
+use Rattle.log_laws.proofs.log_page.Mixed.{other_lap_shows}
+use Rattle.store_model.specs.sector_device.Sectors.{sector_in, sectors_of}
+use Rattle.store_model.specs.sector_device.WholeSectors.{length-sector_in, length-sectors_of}
+use Rattle.store_model.specs.sector_device.Disks.{Disk, MayHold, newest, seen, is_within, put, IsBetween}
+use Rattle.store_model.proofs.sector_device.Images.{between_holds}
 use Rattle.store_model.specs.Geometry.{SectorBytes}
 use Rattle.store_model.proofs.Known.{is_in}
 use Rattle.store_model.specs.Rings.{PagePlaces, newest_page, PlaceMayHold, Ring, is_page, HasPlaces}

@@ -6,15 +6,15 @@ use Rattle.std.specs.Prelude.{Contains, nat_eq, ◌||◌, ◌&&◌, if◌then◌
 use Rattle.std.specs.List.{list_all, list_any, range_with_len}
 use Rattle.std.proofs.lemmas.Bool.{and_parts, leb-true, ltb-true}
 use Rattle.std.proofs.lemmas.List.{length-replicate}
-use Rattle.disk_model.specs.declared.block.Block.{Block}
-use Rattle.disk_model.specs.declared.block.Body.{Body}
-use Rattle.disk_model.specs.declared.block.BlockKind.TheVariants.{Plain}
-use Rattle.disk_model.specs.Sectors.{zero_sector, sectors, sector_of, same_kind}
-use Rattle.disk_model.specs.Content.{Content, content_of}
-use Rattle.disk_model.specs.Writes.{bytes_after, cover_all}
-use Rattle.log_model.specs.declared.entry.Entry.{Entry}
-use Rattle.log_model.specs.Logs.{is_in_grid, updates, is_shadowed, recovery_of, recovered, is_covered_whole, is_other, is_written_out, is_partial}
-use Rattle.sector_device.specs.Disks.{Disk, newest, seen, MayHold, is_within, put, settled, IsBetween}
+use Rattle.log_reading.specs.disk_model.declared.block.Block.{Block}
+use Rattle.log_reading.specs.disk_model.declared.block.Body.{Body}
+use Rattle.log_reading.specs.disk_model.declared.block.BlockKind.TheVariants.{Plain}
+use Rattle.log_reading.specs.disk_model.Sectors.{zero_sector, sectors, sector_of, same_kind}
+use Rattle.log_reading.specs.disk_model.Content.{Content, content_of}
+use Rattle.log_reading.specs.disk_model.Writes.{bytes_after, cover_all}
+use Rattle.store_model.specs.log_model.declared.entry.Entry.{Entry}
+use Rattle.store_model.specs.log_model.Logs.{is_in_grid, updates, is_shadowed, recovery_of, recovered, is_covered_whole, is_other, is_written_out, is_partial}
+use Rattle.store_model.specs.sector_device.Disks.{Disk, newest, seen, MayHold, is_within, put, settled, IsBetween}
 use Rattle.store_model.specs.Geometry.{SectorBytes, CanLeave, Geometry, Puts, PutsAll}
 use Rattle.store_model.specs.Events.{StandsAs}
 use Rattle.store_model.specs.Volumes.{is_free, is_known, sectors_from, IsVolume, BearsContent, AreWhole, IsRecovered}

@@ -2,23 +2,23 @@
 use Rattle.std.proofs.Common.{◌≡◌, ℕ, zero, suc, ◌+◌, ◌-◌, ◌<◌, ◌≤◌, max, Bool, true, false, List, [], ◌∷◌, ◌++◌, length, take, drop, get_or, Option, Some, None, refl, sym, ap, ◌∙◌, subst, inl, inr, length-append, arith}
 use Rattle.std.specs.Prelude.{if◌then◌else◌}
 use Rattle.std.proofs.lemmas.Bool.{cases_lt, eq-eqb, ne_eqb}
-use Rattle.log_model.specs.declared.entry.Entry.{Entry}
-use Rattle.log_page.specs.declared.restart.Restart.{Restart}
-use Rattle.log_page.specs.Places.{first_page}
-use Rattle.log_page.specs.CheckWords.{IsCheckWord}
-use Rattle.log_page.specs.PageSpellings.{MakePage}
-use Rattle.log_page.specs.Restarts.{FitsRestart}
-use Rattle.log_page.specs.RestartLaws.{HasRanges}
-use Rattle.sector_device.specs.Disks.{Disk, seen, settled, IsBetween}
+use Rattle.store_model.specs.log_model.declared.entry.Entry.{Entry}
+use Rattle.log_reading.specs.log_page.declared.restart.Restart.{Restart}
+use Rattle.log_reading.specs.log_page.Places.{first_page}
+use Rattle.log_reading.specs.log_page.CheckWords.{IsCheckWord}
+use Rattle.log_reading.specs.log_page.PageSpellings.{MakePage}
+use Rattle.log_reading.specs.log_page.Restarts.{FitsRestart}
+use Rattle.log_reading.specs.log_page.RestartLaws.{HasRanges}
+use Rattle.store_model.specs.sector_device.Disks.{Disk, seen, settled, IsBetween}
 use Rattle.store_model.specs.Stores.{Store}
 use Rattle.store_model.specs.Rings.{PagePlaces, Ring, Restarts, entries_on, synced_places, restart_place}
 use Rattle.store_model.proofs.Rings.{entries_longer, drop_entries, take_entries}
 use Rattle.ring_laws.specs.Numbers.{LogSession, place_of_page, lap_of_page, lsn_of_page}
-use Rattle.sector_device.specs.Sectors.{sectors_of}
-use Rattle.sector_device.specs.WholeSectors.{length-sectors_of}
-use Rattle.fixup_record.proofs.Protected.{length-protected}
-use Rattle.log_page.specs.Restarts.{restart_spelling}
-use Rattle.log_page.proofs.Spelled.{length-restart_spelling}
+use Rattle.store_model.specs.sector_device.Sectors.{sectors_of}
+use Rattle.store_model.specs.sector_device.WholeSectors.{length-sectors_of}
+use Rattle.store_model.proofs.fixup_record.Protected.{length-protected}
+use Rattle.log_reading.specs.log_page.Restarts.{restart_spelling}
+use Rattle.log_laws.proofs.log_page.Spelled.{length-restart_spelling}
 use Rattle.ring_laws.specs.PageBytes.{raw_page, AreAlike, spelled_page, spelled_restart}
 use Rattle.ring_laws.specs.RingPages.{HoldsRing, entries_of_page, page_written, page_sent, fixed_to}
 use Rattle.ring_laws.specs.RestartPages.{RestartFields, IsBelow, HoldsRestarts, with_next, restart_written, restart_sent, restart_synced}

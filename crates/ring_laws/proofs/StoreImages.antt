@@ -1,10 +1,10 @@
 -- What a crash leaves of the log of a store is an image of it.
 use Rattle.std.proofs.Common.{◌≡◌, ℕ, zero, suc, ◌-◌, ◌≤◌, List, [], ◌∷◌, length, take, drop, Option, Some, None, refl, sym, ap, ◌∙◌, inl, inr, arith}
-use Rattle.log_model.specs.declared.entry.Entry.{Entry}
-use Rattle.log_page.specs.declared.restart.Restart.{Restart}
-use Rattle.log_page.specs.RecordPages.{Reading}
-use Rattle.log_page.specs.LiveLogs.{live_log}
-use Rattle.sector_device.specs.Disks.{Disk}
+use Rattle.store_model.specs.log_model.declared.entry.Entry.{Entry}
+use Rattle.log_reading.specs.log_page.declared.restart.Restart.{Restart}
+use Rattle.log_reading.specs.log_page.RecordPages.{Reading}
+use Rattle.log_reading.specs.log_page.LiveLogs.{live_log}
+use Rattle.store_model.specs.sector_device.Disks.{Disk}
 use Rattle.store_model.specs.Geometry.{SectorBytes, CanLeave}
 use Rattle.store_model.specs.Stores.{Store, list_of}
 use Rattle.store_model.specs.Rings.{Ring, Restarts, chosen_page, read_to, entries_on, read_from, ReadsList, IsLeft}

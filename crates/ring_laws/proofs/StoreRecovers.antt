@@ -2,12 +2,12 @@
 use Rattle.std.proofs.Common.{◌≡◌, ℕ, Bool, true, List, Option, None, inl, inr, sym, ap, ◌∙◌, subst}
 use Rattle.std.specs.Prelude.{option_map}
 use Rattle.std.specs.List.{AllByRecursion}
-use Rattle.disk_model.specs.Content.{Content, content_of}
-use Rattle.fixup_record.specs.Spellings.{has_spelling}
-use Rattle.log_model.specs.declared.entry.Entry.{Entry}
-use Rattle.log_model.specs.Logs.{is_other, is_written_out, first_partial}
-use Rattle.disk_model.specs.declared.block.Block.{Block}
-use Rattle.sector_device.specs.Disks.{Disk}
+use Rattle.log_reading.specs.disk_model.Content.{Content, content_of}
+use Rattle.store_model.specs.fixup_record.Spellings.{has_spelling}
+use Rattle.store_model.specs.log_model.declared.entry.Entry.{Entry}
+use Rattle.store_model.specs.log_model.Logs.{is_other, is_written_out, first_partial}
+use Rattle.log_reading.specs.disk_model.declared.block.Block.{Block}
+use Rattle.store_model.specs.sector_device.Disks.{Disk}
 use Rattle.store_model.specs.Logs.{has_update}
 use Rattle.store_model.specs.Geometry.{SectorBytes, CanLeave, Geometry}
 use Rattle.store_model.specs.Stores.{Store, list_of, IsSound, IsStored}

@@ -1,14 +1,14 @@
 -- What a crash leaves of a device that holds a store and its log, and that it recovers.
 use Rattle.std.specs.Prelude.{◌≡◌, ◌⊎◌, ℕ, ◌<◌, ◌≤◌, Bool, true, false, List, Some, None}
-use Rattle.disk_model.specs.declared.block.Block.{Block}
-use Rattle.disk_model.specs.Content.{Content, content_of}
-use Rattle.fixup_record.specs.Spellings.{has_spelling}
-use Rattle.log_model.specs.declared.entry.Entry.{Entry}
-use Rattle.log_model.specs.Logs.{is_shadowed, is_other, is_written_out, first_partial}
-use Rattle.log_page.specs.declared.restart.Restart.{Restart}
-use Rattle.log_page.specs.LiveLogs.{live_log}
+use Rattle.log_reading.specs.disk_model.declared.block.Block.{Block}
+use Rattle.log_reading.specs.disk_model.Content.{Content, content_of}
+use Rattle.store_model.specs.fixup_record.Spellings.{has_spelling}
+use Rattle.store_model.specs.log_model.declared.entry.Entry.{Entry}
+use Rattle.store_model.specs.log_model.Logs.{is_shadowed, is_other, is_written_out, first_partial}
+use Rattle.log_reading.specs.log_page.declared.restart.Restart.{Restart}
+use Rattle.log_reading.specs.log_page.LiveLogs.{live_log}
 use Rattle.log_reading.specs.Fronts.{chosen_in}
-use Rattle.sector_device.specs.Disks.{Disk}
+use Rattle.store_model.specs.sector_device.Disks.{Disk}
 use Rattle.store_model.specs.Logs.{has_update}
 use Rattle.store_model.specs.Geometry.{SectorBytes, CanLeave, Geometry}
 use Rattle.store_model.specs.Stores.{Store, IsSound}

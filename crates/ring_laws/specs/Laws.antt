@@ -1,19 +1,19 @@
 -- The laws of the ring as bytes.
 use Rattle.std.specs.Prelude.{◌≡◌, ◌≢◌, ◌⊎◌, ℕ, suc, ◌+◌, ◌-◌, ◌*◌, ◌^◌, ◌≤◌, ◌<◌, true, false, List, [], length, get_or, take, drop, Option, Some, None}
-use Rattle.disk_model.specs.Content.{content_of}
-use Rattle.log_model.specs.declared.entry.Entry.{Entry}
-use Rattle.log_page.specs.declared.places.LogPlace.{LogPlace}
-use Rattle.log_page.specs.declared.restart.Restart.{Restart}
-use Rattle.log_page.specs.Places.{page_bytes, first_page, entries_at, lap_of, page_of, is_in_ring, page_after, lap_after}
-use Rattle.log_page.specs.CheckWords.{IsCheckWord}
-use Rattle.log_page.specs.PageSpellings.{MakePage}
-use Rattle.log_page.specs.LiveLogs.{start_in_page, live_log, said_lsn, next_lap}
-use Rattle.log_page.specs.Restarts.{is_blank, FitsRestart}
-use Rattle.log_page.specs.RestartLaws.{HasRanges}
+use Rattle.log_reading.specs.disk_model.Content.{content_of}
+use Rattle.store_model.specs.log_model.declared.entry.Entry.{Entry}
+use Rattle.log_reading.specs.log_page.declared.places.LogPlace.{LogPlace}
+use Rattle.log_reading.specs.log_page.declared.restart.Restart.{Restart}
+use Rattle.log_reading.specs.log_page.Places.{page_bytes, first_page, entries_at, lap_of, page_of, is_in_ring, page_after, lap_after}
+use Rattle.log_reading.specs.log_page.CheckWords.{IsCheckWord}
+use Rattle.log_reading.specs.log_page.PageSpellings.{MakePage}
+use Rattle.log_reading.specs.log_page.LiveLogs.{start_in_page, live_log, said_lsn, next_lap}
+use Rattle.log_reading.specs.log_page.Restarts.{is_blank, FitsRestart}
+use Rattle.log_reading.specs.log_page.RestartLaws.{HasRanges}
 use Rattle.log_reading.specs.LogPages.{log_sector, page_in}
 use Rattle.log_reading.specs.Rings.{IsRingPlace}
-use Rattle.sector_device.specs.Sectors.{sectors_of}
-use Rattle.sector_device.specs.Disks.{Disk, seen, is_within, put, settled, IsBetween, IsSized}
+use Rattle.store_model.specs.sector_device.Sectors.{sectors_of}
+use Rattle.store_model.specs.sector_device.Disks.{Disk, seen, is_within, put, settled, IsBetween, IsSized}
 use Rattle.store_model.specs.Geometry.{SectorBytes, CanLeave}
 use Rattle.store_model.specs.Rings.{PagePlaces, MayLeavePages, Ring, HasPlaces, synced_places, entries_on, read_from, Restarts, restart_place}
 use Rattle.ring_laws.specs.Numbers.{LogSession, ring_size, place_of_page, lap_of_page, lsn_of_page, IsInRing}

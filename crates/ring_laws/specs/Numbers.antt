@@ -1,7 +1,7 @@
 -- The pages of a session of the log are numbered: where each stands, in which lap, and the LSN of its first entry.
 use Rattle.std.specs.Prelude.{ℕ, ◌+◌, ◌-◌, ◌/◌, ◌%◌, ◌≤◌, ◌<◌}
-use Rattle.log_page.specs.declared.places.LogPlace.{LogPlace}
-use Rattle.log_page.specs.Places.{first_page, page_lsn}
+use Rattle.log_reading.specs.log_page.declared.places.LogPlace.{LogPlace}
+use Rattle.log_reading.specs.log_page.Places.{first_page, page_lsn}
 
 -- A session: where its log lies, and the lap of its first page, which has the number 0 and is the ring's first one.
 pub record LogSession : Type 0 where

@@ -1,14 +1,14 @@
 -- The pages of a log as bytes, in sectors that a crash may leave.
 use Rattle.std.specs.Prelude.{◌≡◌, ℕ, ◌+◌, ◌*◌, ◌≤◌, ◌<◌, List, [], length, unwrap_or}
-use Rattle.disk_model.specs.Sectors.{raw_from}
-use Rattle.fixup_record.specs.Protecting.{protected_bytes}
-use Rattle.log_model.specs.declared.entry.Entry.{Entry}
-use Rattle.log_page.specs.declared.places.LogPlace.{LogPlace}
-use Rattle.log_page.specs.declared.restart.Restart.{Restart}
-use Rattle.log_page.specs.PageSpellings.{page_spelling}
-use Rattle.log_page.specs.Restarts.{restart_spelling}
+use Rattle.log_reading.specs.disk_model.Sectors.{raw_from}
+use Rattle.store_model.specs.fixup_record.Protecting.{protected_bytes}
+use Rattle.store_model.specs.log_model.declared.entry.Entry.{Entry}
+use Rattle.log_reading.specs.log_page.declared.places.LogPlace.{LogPlace}
+use Rattle.log_reading.specs.log_page.declared.restart.Restart.{Restart}
+use Rattle.log_reading.specs.log_page.PageSpellings.{page_spelling}
+use Rattle.log_reading.specs.log_page.Restarts.{restart_spelling}
 use Rattle.log_reading.specs.LogPages.{log_sector}
-use Rattle.sector_device.specs.Disks.{Disk, MayHold}
+use Rattle.store_model.specs.sector_device.Disks.{Disk, MayHold}
 use Rattle.store_model.specs.Geometry.{SectorBytes}
 use Rattle.ring_laws.specs.Numbers.{LogSession, place_of_page, lap_of_page}
 

@@ -1,14 +1,14 @@
 -- The two restart pages on a disk: what a crash may leave of them is what their numbers say.
 use Rattle.std.specs.Prelude.{◌≡◌, ◌≢◌, ◌⊎◌, ⊤, ℕ, suc, ◌+◌, ◌-◌, ◌==◌, ◌<◌, ◌≤◌, true, false, if◌then◌else◌, List, [], length, Option, Some, None}
-use Rattle.log_page.specs.declared.restart.Restart.{Restart}
-use Rattle.log_page.specs.declared.places.LogPlace.{LogPlace}
-use Rattle.log_page.specs.Restarts.{restart_of, is_newer, whole_one, is_blank, is_emptied, FitsRestart}
-use Rattle.log_page.specs.RestartLaws.{HasRanges}
-use Rattle.log_page.specs.CheckWords.{IsCheckWord}
+use Rattle.log_reading.specs.log_page.declared.restart.Restart.{Restart}
+use Rattle.log_reading.specs.log_page.declared.places.LogPlace.{LogPlace}
+use Rattle.log_reading.specs.log_page.Restarts.{restart_of, is_newer, whole_one, is_blank, is_emptied, FitsRestart}
+use Rattle.log_reading.specs.log_page.RestartLaws.{HasRanges}
+use Rattle.log_reading.specs.log_page.CheckWords.{IsCheckWord}
 use Rattle.log_reading.specs.Rings.{IsRingPlace}
 use Rattle.log_reading.specs.Fronts.{chosen_in}
-use Rattle.sector_device.specs.Sectors.{sector_in}
-use Rattle.sector_device.specs.Disks.{Disk, MayHold, seen}
+use Rattle.store_model.specs.sector_device.Sectors.{sector_in}
+use Rattle.store_model.specs.sector_device.Disks.{Disk, MayHold, seen}
 use Rattle.store_model.specs.Geometry.{SectorBytes}
 use Rattle.store_model.specs.Rings.{PagePlaces, newest_page, PlaceMayHold, Restarts, restart_place, AreRestarts, synced_places, chosen_page}
 use Rattle.ring_laws.specs.PageBytes.{page_sector, raw_page, CanLeavePage, IsStill, IsSizedPage, spelled_restart}

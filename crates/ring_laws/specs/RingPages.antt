@@ -1,14 +1,14 @@
 -- The pages of the ring on a disk: what a crash may leave of them is what the ring says, by numbers.
 use Rattle.std.specs.Prelude.{◌≡◌, ◌⊎◌, ℕ, suc, ◌+◌, ◌-◌, ◌≤◌, ◌<◌, max, true, false, List, [], length, get_or, Option, Some, None}
-use Rattle.log_model.specs.declared.entry.Entry.{Entry}
-use Rattle.log_page.specs.Places.{entries_at, lap_of}
-use Rattle.log_page.specs.RecordPages.{is_whole_page, page_reading}
-use Rattle.log_page.specs.CheckWords.{IsCheckWord}
-use Rattle.log_page.specs.PageSpellings.{MakePage}
-use Rattle.log_page.specs.LiveLogs.{said_lsn}
+use Rattle.store_model.specs.log_model.declared.entry.Entry.{Entry}
+use Rattle.log_reading.specs.log_page.Places.{entries_at, lap_of}
+use Rattle.log_reading.specs.log_page.RecordPages.{is_whole_page, page_reading}
+use Rattle.log_reading.specs.log_page.CheckWords.{IsCheckWord}
+use Rattle.log_reading.specs.log_page.PageSpellings.{MakePage}
+use Rattle.log_reading.specs.log_page.LiveLogs.{said_lsn}
 use Rattle.log_reading.specs.Rings.{IsRingPlace}
-use Rattle.sector_device.specs.Sectors.{sector_in}
-use Rattle.sector_device.specs.Disks.{Disk, MayHold, seen}
+use Rattle.store_model.specs.sector_device.Sectors.{sector_in}
+use Rattle.store_model.specs.sector_device.Disks.{Disk, MayHold, seen}
 use Rattle.store_model.specs.Geometry.{SectorBytes}
 use Rattle.store_model.specs.Rings.{PagePlaces, newest_page, PlaceMayHold, Ring, is_page, new_ring, IsRing}
 use Rattle.ring_laws.specs.Numbers.{LogSession, ring_size, place_of_page, lap_of_page, lsn_of_page, IsInRing}

@@ -1,10 +1,10 @@
 -- A device's disk as a store sees it: without the sectors that the log keeps for itself.
 use Rattle.std.specs.Prelude.{◌≡◌, ℕ, Bool, true, if◌then◌else◌, List, [], length}
-use Rattle.disk_model.specs.declared.block.Block.{Block}
-use Rattle.disk_model.specs.Sectors.{zero_sector, sectors}
-use Rattle.disk_model.specs.Content.{Content, content_of}
-use Rattle.log_model.specs.declared.entry.Entry.{Entry}
-use Rattle.sector_device.specs.Disks.{Disk, seen, is_within, put, settled, IsBetween}
+use Rattle.log_reading.specs.disk_model.declared.block.Block.{Block}
+use Rattle.log_reading.specs.disk_model.Sectors.{zero_sector, sectors}
+use Rattle.log_reading.specs.disk_model.Content.{Content, content_of}
+use Rattle.store_model.specs.log_model.declared.entry.Entry.{Entry}
+use Rattle.store_model.specs.sector_device.Disks.{Disk, seen, is_within, put, settled, IsBetween}
 use Rattle.store_model.specs.Geometry.{SectorBytes, CanLeave, Geometry, Puts, PutsAll}
 use Rattle.store_model.specs.Events.{StandsAs}
 use Rattle.store_model.specs.Volumes.{is_known, sectors_from, IsVolume, BearsContent, AreWhole, IsRecovered}

@@ -1,14 +1,14 @@
 -- The log of a store on a disk: what a crash leaves of it is an image that the store may leave, and what each event makes of it.
 use Rattle.std.specs.Prelude.{◌≡◌, ◌⊎◌, ℕ, suc, ◌+◌, ◌-◌, ◌<◌, ◌≤◌, max, Bool, true, false, List, [], length, get_or, take, drop, Option, Some, None}
-use Rattle.log_model.specs.declared.entry.Entry.{Entry}
-use Rattle.log_page.specs.declared.restart.Restart.{Restart}
-use Rattle.log_page.specs.CheckWords.{IsCheckWord}
-use Rattle.log_page.specs.LiveLogs.{live_log}
-use Rattle.log_page.specs.PageSpellings.{MakePage}
-use Rattle.log_page.specs.Restarts.{FitsRestart}
-use Rattle.log_page.specs.RestartLaws.{HasRanges}
+use Rattle.store_model.specs.log_model.declared.entry.Entry.{Entry}
+use Rattle.log_reading.specs.log_page.declared.restart.Restart.{Restart}
+use Rattle.log_reading.specs.log_page.CheckWords.{IsCheckWord}
+use Rattle.log_reading.specs.log_page.LiveLogs.{live_log}
+use Rattle.log_reading.specs.log_page.PageSpellings.{MakePage}
+use Rattle.log_reading.specs.log_page.Restarts.{FitsRestart}
+use Rattle.log_reading.specs.log_page.RestartLaws.{HasRanges}
 use Rattle.log_reading.specs.Fronts.{chosen_in}
-use Rattle.sector_device.specs.Disks.{Disk, seen, settled, IsBetween}
+use Rattle.store_model.specs.sector_device.Disks.{Disk, seen, settled, IsBetween}
 use Rattle.store_model.specs.Geometry.{SectorBytes, CanLeave}
 use Rattle.store_model.specs.Stores.{Store, Image, MayLeave, list_of}
 use Rattle.store_model.specs.Rings.{PagePlaces, Ring, Restarts, IsKept, entries_on, synced_places, restart_place}

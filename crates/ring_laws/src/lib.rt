@@ -16,3 +16,4 @@ pub use laws::{
     images_recover, images_recover_since, logs_are_left, logs_follow, pages_are_bytes,
     pages_are_numbered, restarts_stand, ring_is_read, ring_stands, stores_see_disks,
 };
+pub use log_reading::{View, ViewFault, lap_of, page_lsn};

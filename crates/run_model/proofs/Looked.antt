@@ -1,7 +1,7 @@
 -- A turn of an operation that only looks.
 use Rattle.std.proofs.Common.{◌≡◌, ℕ, ◌+◌, true, List}
 use Rattle.std.specs.Prelude.{◌≢◌}
-use Rattle.file_tree.specs.declared.tree.Tree.{Tree}
+use Rattle.tree_model.specs.file_tree.declared.tree.Tree.{Tree}
 use Rattle.tree_model.specs.declared.script.Op.{Op}
 use Rattle.tree_model.specs.declared.script.Op.TheVariants as op
 use Rattle.tree_model.specs.declared.reply.Reply.{Reply}

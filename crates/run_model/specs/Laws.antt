@@ -1,6 +1,6 @@
 -- The laws of runs.
 use Rattle.std.specs.Prelude.{List, [], ◌∷◌, ◌++◌}
-use Rattle.file_tree.specs.declared.tree.Tree.{Tree}
+use Rattle.tree_model.specs.file_tree.declared.tree.Tree.{Tree}
 use Rattle.run_model.specs.declared.turn.Turn.{Turn}
 use Rattle.run_model.specs.Runs.{RunStart, IsTreeTurn, Segment}
 

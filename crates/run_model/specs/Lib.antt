@@ -1,3 +1,4 @@
+pub use Rattle.tree_model.specs as tree_model
 pub mod Runs
 pub mod Texts
 pub mod Laws

@@ -1,8 +1,8 @@
 -- Serial runs: turns that lead from one state to another, one step each; and the runs of the file tree.
 use Rattle.std.specs.Prelude.{◌≡◌, ℕ, ◌+◌, ◌<◌, ◌≤◌, Bool, true, false, ◌&&◌, ◌==◌, List, [], ◌∷◌, ◌++◌, length, filter, slice_get, Option, Some, None, All}
 use Rattle.host_base.specs.Causes.{HasFailed}
-use Rattle.file_tree.specs.declared.tree.Tree.{Tree}
-use Rattle.file_tree.specs.declared.journal.Journal.{Journal}
+use Rattle.tree_model.specs.file_tree.declared.tree.Tree.{Tree}
+use Rattle.tree_model.specs.file_tree.declared.journal.Journal.{Journal}
 use Rattle.tree_model.specs.declared.script.What.{What}
 use Rattle.tree_model.specs.declared.script.Op.{Op}
 use Rattle.tree_model.specs.declared.script.Op.TheVariants as op

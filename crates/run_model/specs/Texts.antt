@@ -7,12 +7,12 @@ use Rattle.std.specs.Ordering.{nat_cmp, ordering_then, is_lt}
 use Rattle.std.specs.Int.{w32, to_be_bytes}
 use Rattle.std.specs.Fmt.{decimal}
 use Rattle.hex.specs.Hex.{encode_lower}
-use Rattle.utf16_name.specs.Texts.{name_text}
-use Rattle.file_tree.specs.declared.node.Kind.{Kind}
-use Rattle.file_tree.specs.declared.node.Kind.TheVariants.{Directory, File, Fixed, Opaque, System}
-use Rattle.file_tree.specs.declared.node.Why.{Why}
-use Rattle.file_tree.specs.declared.node.Why.TheVariants as why
-use Rattle.file_tree.specs.declared.journal.Usn.{Usn}
+use Rattle.tree_model.specs.utf16_name.Texts.{name_text}
+use Rattle.tree_model.specs.file_tree.declared.node.Kind.{Kind}
+use Rattle.tree_model.specs.file_tree.declared.node.Kind.TheVariants.{Directory, File, Fixed, Opaque, System}
+use Rattle.tree_model.specs.file_tree.declared.node.Why.{Why}
+use Rattle.tree_model.specs.file_tree.declared.node.Why.TheVariants as why
+use Rattle.tree_model.specs.file_tree.declared.journal.Usn.{Usn}
 use Rattle.tree_model.specs.declared.reply.Hit.{Hit}
 use Rattle.tree_model.specs.declared.reply.Reply.{Reply}
 use Rattle.tree_model.specs.declared.reply.Reply.TheVariants as reply

@@ -12,4 +12,5 @@ pub use laws::{
     DiskRun, run_goes_on, run_keeps_states, runs_join, store_keeps_states, turn_keeps_states,
     turns_keep_states,
 };
+pub use tree_model::{Op, clusters_after, clusters_for, shrinks, size_after, valid_after};
 pub use turn::{FindLine, Turn};

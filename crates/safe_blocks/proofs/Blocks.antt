@@ -22,23 +22,23 @@ use Rattle.stream_laws.proofs.Owning.{one_block}
 use Rattle.stream_laws.proofs.Placing.{lies}
 use Rattle.stream_laws.proofs.Rewriting.{volume_parts}
 use Rattle.stream_laws.proofs.Tabling.{table_runs}
-use Rattle.tree_laws.proofs.Keeping.{rules_of}
-use Rattle.plan_owners.specs.States.{Stands}
-use Rattle.plan_owners.specs.Agreeing.{IsJudged}
-use Rattle.plan_owners.specs.Kinds.{OwnsAs}
-use Rattle.plan_owners.proofs.ByKind.{owned_as}
-use Rattle.plan_owners.proofs.Outside.{once}
-use Rattle.plan_owners.proofs.Standing.{begins, rule_4_parts}
-use Rattle.plan_model.proofs.Drafting.{per_is}
-use Rattle.state_blocks.specs.Needing.{IsNeeded}
-use Rattle.state_blocks.proofs.Needing.{listed_judged}
-use Rattle.image_open.specs.Volumes.{boot_place}
-use Rattle.image_open.specs.Writing.{found_by}
+use Rattle.spares_at_mount.proofs.tree_laws.Keeping.{rules_of}
+use Rattle.spares_at_mount.specs.plan_owners.States.{Stands}
+use Rattle.spares_at_mount.specs.plan_owners.Agreeing.{IsJudged}
+use Rattle.spares_at_mount.specs.plan_owners.Kinds.{OwnsAs}
+use Rattle.spares_at_mount.proofs.plan_owners.ByKind.{owned_as}
+use Rattle.spares_at_mount.proofs.plan_owners.Outside.{once}
+use Rattle.spares_at_mount.proofs.plan_owners.Standing.{begins, rule_4_parts}
+use Rattle.spares_at_mount.proofs.plan_model.Drafting.{per_is}
+use Rattle.spares_at_mount.specs.state_blocks.Needing.{IsNeeded}
+use Rattle.spares_at_mount.proofs.state_blocks.Needing.{listed_judged}
+use Rattle.spares_at_mount.specs.image_open.Volumes.{boot_place}
+use Rattle.spares_at_mount.specs.image_open.Writing.{found_by}
 use Rattle.store_model.specs.Volumes.{is_known}
-use Rattle.txn_model.specs.Values.{StoreFacts, is_own}
+use Rattle.spares_at_mount.specs.txn_model.Values.{StoreFacts, is_own}
 use Rattle.member_states.specs.Members.{base_of, is_found, IsSafe}
 use Rattle.spares_at_mount.proofs.Mounting.{judged_apart, apart_known}
-use Rattle.volume_mount.specs.Boot.{boot_key}
+use Rattle.spares_at_mount.specs.volume_mount.Boot.{boot_key}
 use Rattle.safe_blocks.specs.Safe.{SuitsStore}
 
 -- ---- record 2

@@ -23,13 +23,13 @@ use Rattle.stream_laws.specs.Sharing.{stream_at, runs_in}
 use Rattle.stream_laws.specs.Volumes.{base_record}
 use Rattle.stream_laws.proofs.Rewriting.{attrs_alone}
 use Rattle.stream_laws.proofs.Tabling.{no_list_stream, inside_list}
-use Rattle.tree_laws.proofs.Keeping.{passes_below}
-use Rattle.plan_owners.specs.States.{Stands}
-use Rattle.plan_owners.specs.Agreeing.{list_key}
-use Rattle.plan_owners.proofs.Standing.{slots, joined_at, listed_file, some_file}
-use Rattle.plan_owners.proofs.Unnamed.{slot_of_base}
-use Rattle.image_open.specs.declared.refusal.Refusal.{Refusal}
-use Rattle.volume_mount.specs.Mounts.{list_count, has_single_list, unless_failing, has_single_lists}
+use Rattle.spares_at_mount.proofs.tree_laws.Keeping.{passes_below}
+use Rattle.spares_at_mount.specs.plan_owners.States.{Stands}
+use Rattle.spares_at_mount.specs.plan_owners.Agreeing.{list_key}
+use Rattle.spares_at_mount.proofs.plan_owners.Standing.{slots, joined_at, listed_file, some_file}
+use Rattle.spares_at_mount.proofs.plan_owners.Unnamed.{slot_of_base}
+use Rattle.spares_at_mount.specs.image_open.declared.refusal.Refusal.{Refusal}
+use Rattle.spares_at_mount.specs.volume_mount.Mounts.{list_count, has_single_list, unless_failing, has_single_lists}
 use Rattle.safe_blocks.specs.Safe.{SingleListsAreOwn}
 
 -- ---- counts

@@ -10,18 +10,18 @@ use Rattle.log_reading.specs.Rings.{IsRingPlace}
 use Rattle.state_model.specs.declared.geometry.Geometry.{Geometry}
 use Rattle.volume_model.specs.Volumes.{Volume}
 use Rattle.volume_model.specs.Indexes.{void_block}
-use Rattle.plan_owners.specs.States.{Stands}
-use Rattle.plan_spares.specs.Plans.{HasOwnLists}
-use Rattle.state_blocks.specs.Needing.{IsNeeded}
-use Rattle.image_open.specs.LogPlaces.{LieAlike}
-use Rattle.image_open.specs.Writing.{found_by}
-use Rattle.volume_mount.specs.Boot.{IsBootsAlone}
-use Rattle.volume_mount.specs.Mounts.{has_single_lists, MountedVolume, mounted_in}
+use Rattle.spares_at_mount.specs.plan_owners.States.{Stands}
+use Rattle.spares_at_mount.specs.plan_spares.Plans.{HasOwnLists}
+use Rattle.spares_at_mount.specs.state_blocks.Needing.{IsNeeded}
+use Rattle.spares_at_mount.specs.image_open.LogPlaces.{LieAlike}
+use Rattle.spares_at_mount.specs.image_open.Writing.{found_by}
+use Rattle.spares_at_mount.specs.volume_mount.Boot.{IsBootsAlone}
+use Rattle.spares_at_mount.specs.volume_mount.Mounts.{has_single_lists, MountedVolume, mounted_in}
 use Rattle.store_model.specs.Volumes.{is_known}
-use Rattle.txn_model.specs.Values.{StoreFacts, is_own}
-use Rattle.txn_laws.specs.Windows.{HasStart}
-use Rattle.map_change.specs.Parts.{MapParts}
-use Rattle.state_store.specs.Volumes.{geometry_of}
+use Rattle.spares_at_mount.specs.txn_model.Values.{StoreFacts, is_own}
+use Rattle.spares_at_mount.specs.txn_laws.Windows.{HasStart}
+use Rattle.spares_at_mount.specs.map_change.Parts.{MapParts}
+use Rattle.spares_at_mount.specs.state_store.Volumes.{geometry_of}
 use Rattle.member_states.specs.Members.{base_of, is_found, IsSafe, void_body, MembersAre}
 use Rattle.spares_at_mount.specs.Mounts.{LiesInLog}
 

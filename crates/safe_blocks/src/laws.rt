@@ -1,7 +1,7 @@
 //! The laws of these definitions.
 ghost use Rattle.safe_blocks.specs.Safe.{MountsHoldStates, NeededAreSafe, SingleListsAreOwn};
 
-use mount_laws::{mounted_by_record, mounted_on_ring, mounted_passes};
+use spares_at_mount::{mounted_by_record, mounted_on_ring, mounted_passes};
 
 /// Law: where no file has a second attribute list, each file's attribute list is the one that its
 /// own record has.

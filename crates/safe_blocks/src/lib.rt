@@ -7,3 +7,8 @@
 mod laws;
 
 pub use laws::{mounts_hold_states, needed_are_safe, single_lists_are_own};
+pub use spares_at_mount::{
+    LiveMap, MountFault, Mounted, Names, OpeningToWrite, Refusal, VolumeMap, boot_block,
+    file_stream, has_type, mount, mounted_by_record, mounted_passes, needed_is_all, stores_spare,
+    windows_tell,
+};

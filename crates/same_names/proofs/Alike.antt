@@ -2,9 +2,9 @@
 use Rattle.std.proofs.Common.{◌≡◌, ℕ, ◌+◌, ◌<◌, ◌≤◌, List, length, get_or, Option, Some, None, refl, sym, ap, subst, ◌∙◌, inl, inr, arith}
 use Rattle.std.proofs.lemmas.Bool.{cases_lt, cases_eq}
 use Rattle.std.proofs.lemmas.List.{get_or_past}
-use Rattle.record_model.specs.Records.{Record}
-use Rattle.state_model.specs.Files.{only_base, file_at}
-use Rattle.state_model.specs.Loads.{table_in}
+use Rattle.map_change.specs.record_model.Records.{Record}
+use Rattle.record_rules.specs.state_model.Files.{only_base, file_at}
+use Rattle.record_rules.specs.state_model.Loads.{table_in}
 use Rattle.same_names.specs.Names.{IsNamedAlike, SameNames}
 
 pub alike_itself : (n : ℕ) (o : Option Record) → IsNamedAlike n o o

@@ -7,10 +7,10 @@ use Rattle.std.proofs.Math.ListN.{length-set}
 use Rattle.std.proofs.lemmas.Bool.{cases_Bool, cases_eq, eq-eqb, ne_eqb, eqb-true, or_parts, both_ways}
 use Rattle.std.proofs.lemmas.List.{get_or-set_same, get_or-set_other, take-append-drop, take_more}
 use Rattle.std.proofs.lemmas.List.Folds.{find-append}
-use Rattle.record_model.specs.Records.{Record}
-use Rattle.state_model.specs.declared.stream.Extents.{Extents}
-use Rattle.state_model.specs.Files.{only_base, file_at}
-use Rattle.state_model.specs.Loads.{table_in, record_count}
+use Rattle.map_change.specs.record_model.Records.{Record}
+use Rattle.record_rules.specs.state_model.declared.stream.Extents.{Extents}
+use Rattle.record_rules.specs.state_model.Files.{only_base, file_at}
+use Rattle.record_rules.specs.state_model.Loads.{table_in, record_count}
 use Rattle.map_change.specs.declared.change.RecordChange.{RecordChange}
 use Rattle.map_change.specs.Parts.{MapParts}
 use Rattle.map_change.specs.Applying.{tabled, applied_all}

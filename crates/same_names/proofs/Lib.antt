@@ -1,3 +1,4 @@
+pub use Rattle.map_change.proofs.stream_laws
 pub mod Naming
 pub mod Links
 pub mod Alike

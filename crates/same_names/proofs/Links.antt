@@ -6,9 +6,9 @@ use Rattle.std.proofs.lemmas.Bool.{and_parts, eqb-true}
 use Rattle.std.proofs.lemmas.List.{take_more}
 use Rattle.host_base.specs.declared.file_ref.FileRef.{FileRef}
 use Rattle.host_base.specs.FileRefs.{same_reference}
-use Rattle.file_tree.specs.declared.link.Link.{Link}
-use Rattle.file_tree.specs.Names.{same_units}
-use Rattle.state_model.specs.Rules.{same_link}
+use Rattle.map_change.specs.file_tree.declared.link.Link.{Link}
+use Rattle.map_change.specs.file_tree.Names.{same_units}
+use Rattle.record_rules.specs.state_model.Rules.{same_link}
 
 -- ---- one name
 

@@ -3,13 +3,13 @@ use Rattle.std.proofs.Common.{◌≡◌, ℕ, zero, suc, ◌+◌, ◌||◌, eqb,
 use Rattle.std.specs.List.{range_with_len}
 use mathlib.Core.Path.{fun_ext}
 use Rattle.host_base.specs.declared.file_ref.FileRef.{FileRef}
-use Rattle.record_model.specs.Records.{Record}
-use Rattle.file_tree.specs.declared.link.Link.{Link}
-use Rattle.file_tree.specs.Walks.{root, at_some, passes_system}
-use Rattle.state_model.specs.Files.{Table, file_at, file_links, links_at, reference}
-use Rattle.state_model.specs.Loads.{table_in}
-use Rattle.state_model.specs.Rules.{count_in, names_in}
-use Rattle.state_model.specs.Trees.{first_parent, parent_at, leads, is_in_system}
+use Rattle.map_change.specs.record_model.Records.{Record}
+use Rattle.map_change.specs.file_tree.declared.link.Link.{Link}
+use Rattle.map_change.specs.file_tree.Walks.{root, at_some, passes_system}
+use Rattle.record_rules.specs.state_model.Files.{Table, file_at, file_links, links_at, reference}
+use Rattle.record_rules.specs.state_model.Loads.{table_in}
+use Rattle.record_rules.specs.state_model.Rules.{count_in, names_in}
+use Rattle.record_rules.specs.state_model.Trees.{first_parent, parent_at, leads, is_in_system}
 use Rattle.record_rules.specs.Counts.{names_for, names_at}
 use Rattle.record_rules.specs.Links.{links_in}
 use Rattle.record_rules.specs.Ways.{AreWaysOf}

@@ -1,8 +1,8 @@
 -- Changes of records by which the files of a list of records keep their names.
 use Rattle.std.specs.Prelude.{ℕ, ◌<◌, Bool, ◌==◌, List, length, find, Option, Some, None, ⊤}
-use Rattle.record_model.specs.Records.{Record}
-use Rattle.state_model.specs.Files.{only_base, file_at}
-use Rattle.state_model.specs.Loads.{table_in}
+use Rattle.map_change.specs.record_model.Records.{Record}
+use Rattle.record_rules.specs.state_model.Files.{only_base, file_at}
+use Rattle.record_rules.specs.state_model.Loads.{table_in}
 use Rattle.map_change.specs.declared.change.RecordChange.{RecordChange}
 use Rattle.same_names.specs.Names.{IsNamedAlike}
 

@@ -1,9 +1,9 @@
 -- Two lists of records of which the files have the same names.
 use Rattle.std.specs.Prelude.{◌≡◌, ⊤, ℕ, List, length, Option, Some, None}
-use Rattle.record_model.specs.Records.{Record}
-use Rattle.state_model.specs.Files.{file_at, record_links}
-use Rattle.state_model.specs.Loads.{table_in}
-use Rattle.state_model.specs.Trees.{parent_at, leads, is_in_system}
+use Rattle.map_change.specs.record_model.Records.{Record}
+use Rattle.record_rules.specs.state_model.Files.{file_at, record_links}
+use Rattle.record_rules.specs.state_model.Loads.{table_in}
+use Rattle.record_rules.specs.state_model.Trees.{parent_at, leads, is_in_system}
 use Rattle.record_rules.specs.Counts.{names_at}
 use Rattle.record_rules.specs.Links.{links_in}
 use Rattle.record_rules.specs.Ways.{AreWaysOf}

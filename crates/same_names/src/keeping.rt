@@ -2,18 +2,15 @@
 ghost use Rattle.std.specs.Prelude.{◌≡◌, ◌<◌, ◌++◌, ◌∷◌, [], true, Some, IfOk, length};
 ghost use Rattle.std.specs.List.{list_any};
 ghost use Rattle.std.specs.Option.{option_copied};
-ghost use Rattle.state_model.specs.Files.{only_base};
+ghost use Rattle.record_rules.specs.state_model.Files.{only_base};
 ghost use Rattle.map_change.specs.Parts.{live_parts};
 ghost use Rattle.map_change.specs.Applying.{applied, records_applied};
 ghost use Rattle.same_names.specs.Names.{IsNamedAlike, SameNames};
 ghost use Rattle.same_names.specs.Keeping.{is_of, LeaveNamed};
 
-use file_record::{FileRec, file_at, is_base_record};
-use file_tree::Link;
 use host_base::Memory;
-use map_change::{LiveMap, MapChange, PartsChange, RecordChange};
-use record_rules::record_links;
-use state_model::is_same_link;
+use map_change::{Link, LiveMap, MapChange, PartsChange, RecordChange};
+use record_rules::{FileRec, file_at, is_base_record, is_same_link, record_links};
 use std::alloc::Global;
 
 // ---- one file

@@ -10,3 +10,4 @@ mod laws;
 
 pub use keeping::keeps_names;
 pub use laws::same_names;
+pub use map_change::{LiveMap, MapChange, MapFault, Upcase, apply, prepare};

@@ -5,7 +5,7 @@ use Rattle.std.specs.Option.{option_map}
 use Rattle.std.proofs.lemmas.Bool.{cases_lt, lt-ltb, le-ltb, le-leb, lt-leb}
 use Rattle.std.proofs.lemmas.List.{reverse-append, length-take, get_or-take, ext_get_or}
 use mathlib.Core.Path.{fun_ext}
-use Rattle.host_base.specs.Causes.{last_moment}
+use Rattle.disk_model.specs.host_base.Causes.{last_moment}
 use Rattle.disk_model.specs.Bytes.{part, written}
 use Rattle.disk_model.specs.Sectors.{sector_of, zero_sector}
 use Rattle.disk_model.proofs.Frames.{written_within, written_before, written_behind, length-written}

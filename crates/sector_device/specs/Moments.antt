@@ -1,7 +1,7 @@
 -- The moments of a device, its calls that aren't reads, and its disk.
 use Rattle.std.specs.Prelude.{◌≡◌, ◌⊎◌, ℕ, ◌+◌, ◌≤◌, nat_lt, if◌then◌else◌, List, ◌∷◌, Option, Some, None, Result, IsErr, OnOk, OnErr, IfSome}
 use Rattle.std.specs.Option.{option_map}
-use Rattle.host_base.specs.Causes.{last_moment}
+use Rattle.disk_model.specs.host_base.Causes.{last_moment}
 use Rattle.sector_device.specs.Disks.{Disk, Past, MayLeave, WasLeft, put, settled, IsTornDisk}
 use Rattle.sector_device.specs.declared.device.Call.{Call}
 use Rattle.sector_device.specs.declared.device.Call.TheVariants.{Read, Write, Sync}

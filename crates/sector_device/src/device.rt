@@ -2,12 +2,12 @@ ghost use Rattle.std.specs.Prelude.{◌≡◌, ◌+◌, ◌*◌, ◌/◌, ◌%�
 ghost use Rattle.std.specs.Option.{option_map};
 ghost use Rattle.disk_model.specs.Bytes.{written};
 ghost use Rattle.disk_model.specs.Sectors.{sector_of, raw_from};
-ghost use Rattle.host_base.specs.Causes.{FailsByCause, last_moment};
+ghost use Rattle.disk_model.specs.host_base.Causes.{FailsByCause, last_moment};
 ghost use Rattle.sector_device.specs.Disks.{SeesDisk, IsSized, EndsAt, AreOver};
 ghost use Rattle.sector_device.specs.Moments.{moment_after, DoesNothing, Changes, Writes, Syncs};
 ghost use Rattle.sector_device.specs.Sectors.{sectors_of, IsDiskOf, IsTornBy};
 
-use host_base::Failed;
+use disk_model::Failed;
 
 /// The bytes of a sector.
 pub const SECTOR_BYTES: usize = 512;

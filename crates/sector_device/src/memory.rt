@@ -3,8 +3,8 @@ ghost use Rattle.std.specs.Option.{option_map};
 ghost use Rattle.std.proofs.Common.{arith};
 ghost use Rattle.disk_model.specs.Bytes.{part, written};
 ghost use Rattle.disk_model.specs.Sectors.{sector_of, raw_from};
-ghost use Rattle.host_base.specs.Calls.{IsDue};
-ghost use Rattle.host_base.specs.Causes.{FailsByCause, HasCause, last_moment};
+ghost use Rattle.disk_model.specs.host_base.Calls.{IsDue};
+ghost use Rattle.disk_model.specs.host_base.Causes.{FailsByCause, HasCause, last_moment};
 ghost use Rattle.sector_device.specs.Disks.{put, settled};
 ghost use Rattle.sector_device.specs.Moments.{moment_after, DoesNothing, with_call, IsChanged, Writes, Syncs, MayLeaveNow, LeftSince};
 ghost use Rattle.sector_device.specs.Sectors.{sectors_of, IsTornBy};
@@ -14,7 +14,7 @@ ghost use Rattle.sector_device.specs.KeptLaws.{seen_by, sized_by, ends_by, over_
 
 use crate::choosing::leave;
 use crate::device::{Call, Device, LAST_MOMENT, SECTOR_BYTES};
-use host_base::{Bytes, Failed};
+use disk_model::{Bytes, Failed};
 use std::alloc::{AllocError, Global};
 
 // Fills the buffer with the bytes from `at` on.

@@ -6,4 +6,6 @@
 
 mod laws;
 
+pub use bit_set::{BitSet, Memory};
 pub use laws::chosen_are_free;
+pub use record_model::{Run, Runs};

@@ -1,2 +1,12 @@
+pub use Rattle.mount_laws.proofs.image_open
+pub use Rattle.mount_laws.proofs.plan_owners
+pub use Rattle.mount_laws.proofs.tree_laws
+pub use Rattle.mount_laws.proofs.volume_lookup
+pub use Rattle.mount_laws.proofs.volume_mount
+pub use Rattle.mount_laws.proofs.volume_shadows
+pub use Rattle.plan_growth.proofs.plan_model
+pub use Rattle.state_store.proofs.ring_laws
+pub use Rattle.state_store.proofs.state_blocks
+pub use Rattle.state_store.proofs.txn_core
 pub mod Mounting
 pub mod Lying

@@ -20,21 +20,21 @@ use Rattle.state_model.specs.declared.stream.Stream.{Stream}
 use Rattle.state_model.specs.declared.stream.Stream.TheVariants.{Held, Placed}
 use Rattle.state_model.specs.Loads.{total_clusters, data_stream}
 use Rattle.state_model.specs.Streams.{is_attribute_of, attributes_of, attribute_runs, form_runs, form_stream, joined, stream_of, block_at}
-use Rattle.log_page.specs.declared.places.LogPlace.{LogPlace}
-use Rattle.log_reading.specs.LogPages.{log_sector}
-use Rattle.log_area.specs.Areas.{page_first}
-use Rattle.volume_model.specs.Volumes.{Volume, file_in, file_stream, log_file}
-use Rattle.volume_model.specs.Owners.{uses}
-use Rattle.volume_model.specs.Sizes.{are_joined, follow, keeps_streams}
-use Rattle.stream_laws.specs.Sharing.{stream_at, runs_in}
-use Rattle.stream_laws.proofs.Placing.{lies_in_used}
-use Rattle.stream_laws.proofs.Sharing.{attr_uses, attributes_sum, stream_uses, uses-flat_map, uses-none}
-use Rattle.plan_owners.specs.States.{Stands}
-use Rattle.plan_owners.specs.Agreeing.{log_key}
-use Rattle.plan_owners.proofs.Standing.{streams_at}
+use Rattle.mount_laws.specs.log_page.declared.places.LogPlace.{LogPlace}
+use Rattle.mount_laws.specs.log_reading.LogPages.{log_sector}
+use Rattle.state_store.specs.log_area.Areas.{page_first}
+use Rattle.mount_laws.specs.volume_model.Volumes.{Volume, file_in, file_stream, log_file}
+use Rattle.mount_laws.specs.volume_model.Owners.{uses}
+use Rattle.mount_laws.specs.volume_model.Sizes.{are_joined, follow, keeps_streams}
+use Rattle.mount_laws.specs.stream_laws.Sharing.{stream_at, runs_in}
+use Rattle.mount_laws.proofs.stream_laws.Placing.{lies_in_used}
+use Rattle.mount_laws.proofs.stream_laws.Sharing.{attr_uses, attributes_sum, stream_uses, uses-flat_map, uses-none}
+use Rattle.mount_laws.specs.plan_owners.States.{Stands}
+use Rattle.mount_laws.specs.plan_owners.Agreeing.{log_key}
+use Rattle.mount_laws.proofs.plan_owners.Standing.{streams_at}
 use Rattle.plan_growth.proofs.Placed.{stream_rule}
-use Rattle.image_open.specs.LogPlaces.{place_of_log, stream_place, LieAlike}
-use Rattle.image_open.proofs.Lying.{log_lies_in_stream}
+use Rattle.mount_laws.specs.image_open.LogPlaces.{place_of_log, stream_place, LieAlike}
+use Rattle.mount_laws.proofs.image_open.Lying.{log_lies_in_stream}
 use Rattle.mount_laws.specs.Laws.{LiesByRecord}
 use Rattle.spares_at_mount.specs.Mounts.{LiesInLog}
 

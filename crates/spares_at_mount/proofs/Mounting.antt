@@ -13,34 +13,34 @@ use Rattle.disk_model.specs.Content.{Content, content_of}
 use Rattle.sector_device.specs.Disks.{Disk, SeesDisk, seen, is_within}
 use Rattle.sector_device.specs.Moments.{Changes}
 use Rattle.log_model.specs.Logs.{is_in_grid, may_begin}
-use Rattle.log_page.specs.declared.places.LogPlace.{LogPlace}
-use Rattle.log_reading.specs.LogPages.{log_sector}
-use Rattle.log_reading.specs.Rings.{IsPageAt, IsRingPlace}
-use Rattle.log_area.specs.Areas.{LogAreaOf, page_first}
+use Rattle.mount_laws.specs.log_page.declared.places.LogPlace.{LogPlace}
+use Rattle.mount_laws.specs.log_reading.LogPages.{log_sector}
+use Rattle.mount_laws.specs.log_reading.Rings.{IsPageAt, IsRingPlace}
+use Rattle.state_store.specs.log_area.Areas.{LogAreaOf, page_first}
 use Rattle.state_model.specs.declared.geometry.Geometry.{Geometry}
-use Rattle.volume_model.specs.Volumes.{Volume}
-use Rattle.volume_model.specs.Owners.{uses}
-use Rattle.stream_laws.specs.Owners.{stream_kind}
-use Rattle.stream_laws.specs.Sharing.{stream_at, runs_in}
-use Rattle.stream_laws.proofs.Placing.{lies_in_used}
-use Rattle.stream_laws.proofs.Sharing.{streams_apart}
-use Rattle.plan_owners.specs.States.{Stands}
-use Rattle.plan_owners.specs.Agreeing.{IsJudged, log_key}
-use Rattle.plan_owners.proofs.ByKind.{in_grid}
-use Rattle.plan_owners.proofs.Outside.{once}
-use Rattle.plan_model.proofs.Drafting.{per_is}
+use Rattle.mount_laws.specs.volume_model.Volumes.{Volume}
+use Rattle.mount_laws.specs.volume_model.Owners.{uses}
+use Rattle.mount_laws.specs.stream_laws.Owners.{stream_kind}
+use Rattle.mount_laws.specs.stream_laws.Sharing.{stream_at, runs_in}
+use Rattle.mount_laws.proofs.stream_laws.Placing.{lies_in_used}
+use Rattle.mount_laws.proofs.stream_laws.Sharing.{streams_apart}
+use Rattle.mount_laws.specs.plan_owners.States.{Stands}
+use Rattle.mount_laws.specs.plan_owners.Agreeing.{IsJudged, log_key}
+use Rattle.mount_laws.proofs.plan_owners.ByKind.{in_grid}
+use Rattle.mount_laws.proofs.plan_owners.Outside.{once}
+use Rattle.plan_growth.proofs.plan_model.Drafting.{per_is}
 use Rattle.plan_spares.specs.Plans.{HasOwnLists}
-use Rattle.state_blocks.specs.Needing.{IsNeeded}
-use Rattle.state_blocks.proofs.Needing.{listed_judged}
+use Rattle.state_store.specs.state_blocks.Needing.{IsNeeded}
+use Rattle.state_store.proofs.state_blocks.Needing.{listed_judged}
 use Rattle.store_model.specs.Volumes.{is_known, is_free}
-use Rattle.txn_model.specs.Values.{is_own}
-use Rattle.txn_model.specs.Calls.{first_facts}
-use Rattle.txn_laws.specs.Windows.{HasStart}
-use Rattle.turn_laws.specs.Sparing.{IsSpared}
-use Rattle.map_change.specs.Parts.{MapParts}
-use Rattle.txn_model.specs.Values.{StoreFacts}
-use Rattle.txn_state.specs.States.{StateOf, facts_of}
-use Rattle.txn_core.specs.Views.{present_on, present_content}
+use Rattle.state_store.specs.txn_model.Values.{is_own}
+use Rattle.state_store.specs.txn_model.Calls.{first_facts}
+use Rattle.state_store.specs.txn_laws.Windows.{HasStart}
+use Rattle.state_store.specs.turn_laws.Sparing.{IsSpared}
+use Rattle.state_store.specs.map_change.Parts.{MapParts}
+use Rattle.state_store.specs.txn_model.Values.{StoreFacts}
+use Rattle.state_store.specs.txn_state.States.{StateOf, facts_of}
+use Rattle.state_store.specs.txn_core.Views.{present_on, present_content}
 use Rattle.state_store.specs.Volumes.{geometry_of, IsStateOf, SparesState}
 use Rattle.spares_at_mount.specs.Mounts.{LiesInLog, IsApart}
 

@@ -7,26 +7,26 @@ use Rattle.disk_model.specs.Content.{Content, content_of}
 use Rattle.sector_device.specs.Disks.{Disk, SeesDisk, seen}
 use Rattle.sector_device.specs.Moments.{Changes}
 use Rattle.log_model.specs.Logs.{is_in_grid}
-use Rattle.log_page.specs.declared.places.LogPlace.{LogPlace}
-use Rattle.log_reading.specs.Rings.{IsRingPlace}
-use Rattle.log_area.specs.Areas.{LogAreaOf, page_first}
+use Rattle.mount_laws.specs.log_page.declared.places.LogPlace.{LogPlace}
+use Rattle.mount_laws.specs.log_reading.Rings.{IsRingPlace}
+use Rattle.state_store.specs.log_area.Areas.{LogAreaOf, page_first}
 use Rattle.state_model.specs.declared.geometry.Geometry.{Geometry}
-use Rattle.volume_model.specs.Volumes.{Volume}
-use Rattle.volume_model.specs.Owners.{uses}
-use Rattle.stream_laws.specs.Sharing.{stream_at, runs_in}
-use Rattle.plan_owners.specs.States.{Stands}
-use Rattle.plan_owners.specs.Kinds.{cluster_of}
-use Rattle.plan_owners.specs.Agreeing.{IsJudged, log_key}
+use Rattle.mount_laws.specs.volume_model.Volumes.{Volume}
+use Rattle.mount_laws.specs.volume_model.Owners.{uses}
+use Rattle.mount_laws.specs.stream_laws.Sharing.{stream_at, runs_in}
+use Rattle.mount_laws.specs.plan_owners.States.{Stands}
+use Rattle.mount_laws.specs.plan_owners.Kinds.{cluster_of}
+use Rattle.mount_laws.specs.plan_owners.Agreeing.{IsJudged, log_key}
 use Rattle.plan_spares.specs.Plans.{HasOwnLists}
 use Rattle.store_model.specs.Volumes.{is_known}
-use Rattle.txn_model.specs.Values.{is_own}
-use Rattle.txn_model.specs.Calls.{first_facts}
-use Rattle.txn_laws.specs.Windows.{HasStart}
-use Rattle.image_open.specs.LogPlaces.{LieAlike}
+use Rattle.state_store.specs.txn_model.Values.{is_own}
+use Rattle.state_store.specs.txn_model.Calls.{first_facts}
+use Rattle.state_store.specs.txn_laws.Windows.{HasStart}
+use Rattle.mount_laws.specs.image_open.LogPlaces.{LieAlike}
 use Rattle.mount_laws.specs.Laws.{LiesByRecord}
-use Rattle.map_change.specs.Parts.{MapParts}
-use Rattle.txn_state.specs.States.{StateOf, facts_of}
-use Rattle.txn_core.specs.Views.{present_content}
+use Rattle.state_store.specs.map_change.Parts.{MapParts}
+use Rattle.state_store.specs.txn_state.States.{StateOf, facts_of}
+use Rattle.state_store.specs.txn_core.Views.{present_content}
 use Rattle.state_store.specs.Volumes.{IsStateOf, SparesState}
 
 -- each page of the log lies in a cluster that the volume's log has

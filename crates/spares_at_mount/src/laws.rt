@@ -1,7 +1,7 @@
 //! The laws of these definitions.
 ghost use Rattle.spares_at_mount.specs.Mounts.{BlocksOffLog, LogsLieInVolumes, MountsSpare, StoresSpare};
 
-use stream_laws::owned_once;
+use mount_laws::owned_once;
 
 /// Law: a block by which a state is judged lies in no cluster of the log; and a block of the grid
 /// that lies in none, and shares no sector with a block by which the log is found, may be changed

@@ -8,27 +8,27 @@ use Rattle.disk_model.specs.declared.block.BlockKind.{BlockKind}
 use Rattle.disk_model.specs.declared.block.BlockKind.TheVariants.{Plain, FileRec}
 use Rattle.disk_model.specs.Sectors.{sectors}
 use Rattle.disk_model.specs.Content.{Content}
-use Rattle.record_model.specs.Records.{Record}
-use Rattle.record_model.specs.Constants.{attribute_list, data_type, bitmap_type}
-use Rattle.state_model.specs.declared.geometry.Geometry.{Geometry}
-use Rattle.state_model.specs.declared.stream.Extents.{Extents}
-use Rattle.state_model.specs.declared.stream.Stream.{Stream}
-use Rattle.state_model.specs.declared.stream.Stream.TheVariants.{Held, Placed}
-use Rattle.state_model.specs.Files.{file_at}
-use Rattle.state_model.specs.Loads.{Torn, slot_of, record_count, torn_refusal, list_stream, extents_or, table_in}
-use Rattle.state_model.specs.Streams.{block_at}
-use Rattle.volume_model.specs.Volumes.{Volume, file_in, file_stream, block_bytes, record_block, record_bytes, record_bits, cluster_bits, record_bitmap, table_file, mirror_file, log_file, bitmap_file, upcase_file, upper_of}
-use Rattle.stream_laws.specs.Frames.{SameBytesInSome, SameRecordIn}
-use Rattle.stream_laws.specs.Owners.{stream_kind, initialised_in}
-use Rattle.stream_laws.specs.Sharing.{StreamKey, stream_at, runs_in}
-use Rattle.stream_laws.specs.Tables.{table_key}
-use Rattle.stream_laws.specs.Volumes.{base_record}
-use Rattle.stream_laws.proofs.Framing.{same_records}
-use Rattle.stream_laws.proofs.Loading.{same_cluster_bits, same_record_bits}
-use Rattle.stream_laws.proofs.Recording.{record_read}
-use Rattle.stream_laws.proofs.Rewriting.{parts_of_files}
-use Rattle.stream_laws.proofs.Tabling.{table_extents_is, table_runs}
-use Rattle.tree_laws.proofs.Agreeing.{same_upper}
+use Rattle.plan_owners.specs.record_model.Records.{Record}
+use Rattle.plan_owners.specs.record_model.Constants.{attribute_list, data_type, bitmap_type}
+use Rattle.plan_owners.specs.state_model.declared.geometry.Geometry.{Geometry}
+use Rattle.plan_owners.specs.state_model.declared.stream.Extents.{Extents}
+use Rattle.plan_owners.specs.state_model.declared.stream.Stream.{Stream}
+use Rattle.plan_owners.specs.state_model.declared.stream.Stream.TheVariants.{Held, Placed}
+use Rattle.plan_owners.specs.state_model.Files.{file_at}
+use Rattle.plan_owners.specs.state_model.Loads.{Torn, slot_of, record_count, torn_refusal, list_stream, extents_or, table_in}
+use Rattle.plan_owners.specs.state_model.Streams.{block_at}
+use Rattle.plan_owners.specs.volume_model.Volumes.{Volume, file_in, file_stream, block_bytes, record_block, record_bytes, record_bits, cluster_bits, record_bitmap, table_file, mirror_file, log_file, bitmap_file, upcase_file, upper_of}
+use Rattle.plan_owners.specs.stream_laws.Frames.{SameBytesInSome, SameRecordIn}
+use Rattle.plan_owners.specs.stream_laws.Owners.{stream_kind, initialised_in}
+use Rattle.plan_owners.specs.stream_laws.Sharing.{StreamKey, stream_at, runs_in}
+use Rattle.plan_owners.specs.stream_laws.Tables.{table_key}
+use Rattle.plan_owners.specs.stream_laws.Volumes.{base_record}
+use Rattle.plan_owners.proofs.stream_laws.Framing.{same_records}
+use Rattle.plan_owners.proofs.stream_laws.Loading.{same_cluster_bits, same_record_bits}
+use Rattle.plan_owners.proofs.stream_laws.Recording.{record_read}
+use Rattle.plan_owners.proofs.stream_laws.Rewriting.{parts_of_files}
+use Rattle.plan_owners.proofs.stream_laws.Tabling.{table_extents_is, table_runs}
+use Rattle.plan_owners.proofs.tree_laws.Agreeing.{same_upper}
 use Rattle.plan_owners.specs.States.{Stands}
 use Rattle.plan_owners.specs.Agreeing.{AgreeOnOwned, IsJudged, list_key, log_key}
 use Rattle.plan_owners.proofs.Standing.{loaded_files, begins}

@@ -5,7 +5,7 @@ use Rattle.disk_model.specs.declared.block.Block.{Block}
 use Rattle.disk_model.specs.declared.block.Change.{Change}
 use Rattle.disk_model.specs.Sectors.{same_block, are_rivals}
 use Rattle.disk_model.specs.Content.{Content}
-use Rattle.volume_model.specs.Volumes.{Volume}
+use Rattle.plan_owners.specs.volume_model.Volumes.{Volume}
 use Rattle.state_blocks.specs.Needing.{IsNeeded}
 
 -- one of the changes is of this block

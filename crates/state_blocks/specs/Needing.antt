@@ -2,16 +2,16 @@
 use Rattle.std.specs.Prelude.{◌≡◌, ◌⊎◌, ℕ, true, Some}
 use Rattle.disk_model.specs.declared.block.Block.{Block}
 use Rattle.disk_model.specs.Content.{Content}
-use Rattle.record_model.specs.Records.{Record}
-use Rattle.state_model.specs.declared.geometry.Geometry.{Geometry}
-use Rattle.state_model.specs.declared.stream.Extents.{Extents}
-use Rattle.state_model.specs.declared.stream.Stream.TheVariants.{Placed}
-use Rattle.state_model.specs.Loads.{list_stream}
-use Rattle.volume_model.specs.Volumes.{Volume, record_bytes, record_bits, cluster_bits, upper_of}
-use Rattle.volume_model.specs.Indexes.{void_block}
-use Rattle.volume_state.specs.Trees.{tree_of}
-use Rattle.stream_laws.specs.Frames.{IsRead}
-use Rattle.stream_laws.specs.Volumes.{base_record}
+use Rattle.plan_owners.specs.record_model.Records.{Record}
+use Rattle.plan_owners.specs.state_model.declared.geometry.Geometry.{Geometry}
+use Rattle.plan_owners.specs.state_model.declared.stream.Extents.{Extents}
+use Rattle.plan_owners.specs.state_model.declared.stream.Stream.TheVariants.{Placed}
+use Rattle.plan_owners.specs.state_model.Loads.{list_stream}
+use Rattle.plan_owners.specs.volume_model.Volumes.{Volume, record_bytes, record_bits, cluster_bits, upper_of}
+use Rattle.plan_owners.specs.volume_model.Indexes.{void_block}
+use Rattle.plan_owners.specs.volume_state.Trees.{tree_of}
+use Rattle.plan_owners.specs.stream_laws.Frames.{IsRead}
+use Rattle.plan_owners.specs.stream_laws.Volumes.{base_record}
 use Rattle.plan_owners.specs.States.{Stands}
 use Rattle.plan_owners.specs.Agreeing.{IsJudged, AgreeOnOwned}
 

@@ -14,17 +14,17 @@ use Rattle.state_model.specs.declared.stream.Stream.TheVariants.{Held, Placed}
 use Rattle.state_model.specs.Files.{has_type}
 use Rattle.state_model.specs.Loads.{total_clusters, has_all_pairs}
 use Rattle.state_model.specs.Streams.{first_vcn, attribute_runs, attributes_of, stream_of, block_at}
-use Rattle.volume_model.specs.Sizes.{are_joined, follow, has_hole, keeps_streams}
-use Rattle.volume_model.specs.Volumes.{Volume, file_in}
-use Rattle.stream_runs.specs.Runs.{last_cluster}
-use Rattle.plan_owners.specs.States.{Stands}
-use Rattle.stream_laws.proofs.Rewriting.{volume_parts}
-use Rattle.plan_owners.proofs.Standing.{streams_at}
-use Rattle.plan_model.proofs.Drafting.{per_is}
-use Rattle.plan_model.proofs.OneRecord.{own_record}
-use Rattle.plan_growth.proofs.Placed.{some_attributes, stream_rule}
-use Rattle.plan_growth.proofs.Resizing.{slot_open, used_pairs}
-use Rattle.record_streams.specs.Fitting.{FitsButRoom}
+use Rattle.data_plan.specs.volume_model.Sizes.{are_joined, follow, has_hole, keeps_streams}
+use Rattle.data_plan.specs.volume_model.Volumes.{Volume, file_in}
+use Rattle.data_plan.specs.stream_runs.Runs.{last_cluster}
+use Rattle.data_plan.specs.plan_owners.States.{Stands}
+use Rattle.data_plan.proofs.stream_laws.Rewriting.{volume_parts}
+use Rattle.data_plan.proofs.plan_owners.Standing.{streams_at}
+use Rattle.data_plan.proofs.plan_model.Drafting.{per_is}
+use Rattle.data_plan.proofs.plan_model.OneRecord.{own_record}
+use Rattle.state_streams.proofs.plan_growth.Placed.{some_attributes, stream_rule}
+use Rattle.state_streams.proofs.plan_growth.Resizing.{slot_open, used_pairs}
+use Rattle.data_plan.specs.record_streams.Fitting.{FitsButRoom}
 use Rattle.state_streams.specs.Streams.{IsPlacedIn, StreamsOfStates}
 use Rattle.data_plan.specs.Changes.{data_in, BeginsAtZero, StandsBelow, HasData}
 use Rattle.state_files.specs.Files.{HasFewRuns, FilesHaveData}

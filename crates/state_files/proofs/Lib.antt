@@ -1,1 +1,3 @@
+pub use Rattle.data_plan.proofs as data_plan
+pub use Rattle.state_streams.proofs as state_streams
 mod Having

@@ -10,10 +10,10 @@ use Rattle.state_model.specs.declared.stream.Stream.{Stream}
 use Rattle.state_model.specs.declared.stream.Stream.TheVariants.{Placed}
 use Rattle.state_model.specs.Files.{has_type}
 use Rattle.state_model.specs.Loads.{has_all_pairs}
-use Rattle.volume_model.specs.Sizes.{has_hole}
-use Rattle.volume_model.specs.Volumes.{Volume, file_in}
-use Rattle.plan_owners.specs.States.{Stands}
-use Rattle.record_streams.specs.Fitting.{FitsButRoom}
+use Rattle.data_plan.specs.volume_model.Sizes.{has_hole}
+use Rattle.data_plan.specs.volume_model.Volumes.{Volume, file_in}
+use Rattle.data_plan.specs.plan_owners.States.{Stands}
+use Rattle.data_plan.specs.record_streams.Fitting.{FitsButRoom}
 use Rattle.data_plan.specs.Changes.{data_in, HasData}
 
 -- the runs of data in clusters aren't too many

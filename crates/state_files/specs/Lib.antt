@@ -1,1 +1,2 @@
+pub use Rattle.state_streams.specs as state_streams
 pub mod Files

@@ -7,3 +7,4 @@
 mod laws;
 
 pub use laws::files_have_data;
+pub use state_streams::streams_of_states;

@@ -1,7 +1,7 @@
 -- What each record in use of a file table stands for by itself: a file, its names, its standard information.
 use Rattle.std.specs.Prelude.{ℕ, ◌/◌, ◌%◌, Bool, ◌&&◌, ◌==◌, if◌then◌else◌, List, [], find, Option, Some, None, Result, Ok, Err}
 use Rattle.std.specs.List.{list_any, filter_map}
-use Rattle.host_base.specs.declared.file_ref.FileRef.{FileRef}
+use Rattle.record_model.specs.host_base.declared.file_ref.FileRef.{FileRef}
 use Rattle.record_model.specs.declared.attribute.OwnForm.{OwnForm}
 use Rattle.record_model.specs.declared.attribute.OwnForm.TheVariants.{Resident, Mapped}
 use Rattle.record_model.specs.declared.attribute.Attr.{Attr}

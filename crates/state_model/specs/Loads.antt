@@ -2,12 +2,12 @@
 use Rattle.std.specs.Prelude.{ℕ, zero, suc, ◌+◌, ◌*◌, ◌/◌, ◌%◌, ◌^◌, Bool, true, false, not, ◌&&◌, ◌||◌, ◌==◌, nat_le, nat_eq, if◌then◌else◌, List, [], ◌∷◌, ◌++◌, map, filter, find, slice_index_or, Option, Some, None, Result, Ok, Err}
 use Rattle.std.specs.List.{list_all, list_any, flat_map, range_with_len}
 use Rattle.std.specs.Cmp.Lexicographic.{pointwise}
-use Rattle.host_base.specs.Answers.{◌>>=◌, needs}
-use Rattle.host_base.specs.FileRefs.{same_reference}
-use Rattle.disk_model.specs.declared.block.Block.{Block}
-use Rattle.disk_model.specs.declared.block.Body.{Body}
-use Rattle.disk_model.specs.declared.block.BlockKind.TheVariants.{FileRec, Index}
-use Rattle.disk_model.specs.Content.{Content, is_signed}
+use Rattle.record_model.specs.host_base.Answers.{◌>>=◌, needs}
+use Rattle.record_model.specs.host_base.FileRefs.{same_reference}
+use Rattle.record_model.specs.disk_model.declared.block.Block.{Block}
+use Rattle.record_model.specs.disk_model.declared.block.Body.{Body}
+use Rattle.record_model.specs.disk_model.declared.block.BlockKind.TheVariants.{FileRec, Index}
+use Rattle.record_model.specs.disk_model.Content.{Content, is_signed}
 use Rattle.record_model.specs.declared.attribute.Sizes.{Sizes}
 use Rattle.record_model.specs.declared.attribute.OwnForm.{OwnForm}
 use Rattle.record_model.specs.declared.attribute.OwnForm.TheVariants.{Resident, Mapped}

@@ -2,8 +2,8 @@
 use Rattle.std.specs.Prelude.{ℕ, zero, suc, ◌+◌, Bool, true, false, not, ◌&&◌, ◌||◌, ◌==◌, nat_le, nat_eq, List, [], ◌∷◌, length, count_by, find, Option, Some, None}
 use Rattle.std.specs.List.{list_all, list_any, range_with_len}
 use Rattle.std.specs.Cmp.Lexicographic.{pointwise}
-use Rattle.host_base.specs.declared.file_ref.FileRef.{FileRef}
-use Rattle.host_base.specs.FileRefs.{same_reference}
+use Rattle.record_model.specs.host_base.declared.file_ref.FileRef.{FileRef}
+use Rattle.record_model.specs.host_base.FileRefs.{same_reference}
 use Rattle.record_model.specs.Records.{Record}
 use Rattle.record_model.specs.Constants.{standard_information}
 use Rattle.file_tree.specs.declared.link.Link.{Link}

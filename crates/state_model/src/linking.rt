@@ -3,7 +3,7 @@ ghost use Rattle.std.specs.Prelude.{◌≡◌};
 ghost use Rattle.state_model.specs.Rules.{same_link};
 
 use file_tree::Link;
-use host_base::is_same_reference;
+use record_model::is_same_reference;
 
 /// Whether two names agree in file, directory, namespace and units (Linux-NTFS documentation,
 /// "$FILE_NAME"). It takes time linear in the units.

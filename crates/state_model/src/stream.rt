@@ -1,5 +1,4 @@
-use host_base::Bytes;
-use record_model::Runs;
+use record_model::{Bytes, Runs};
 
 /// The clusters of a stream, and its sizes in bytes.
 #[derive(Debug, Drop)]

@@ -6,9 +6,9 @@ use Rattle.disk_model.specs.declared.block.Change.{Change}
 use Rattle.disk_model.specs.Sectors.{same_block}
 use Rattle.disk_model.proofs.Frames.{same_block-is}
 use Rattle.state_blocks.specs.Drafts.{is_changed}
-use Rattle.store_model.proofs.Told.{true≢false}
-use Rattle.store_claims.specs.Claims.{ClaimWindow}
-use Rattle.store_claims.specs.Moves.{Keeps, ClaimsAfterChange, ClaimsAfterCommit, ClaimsAfterGiveUp}
+use Rattle.turn_laws.proofs.store_model.Told.{true≢false}
+use Rattle.turn_laws.specs.store_claims.Claims.{ClaimWindow}
+use Rattle.turn_laws.specs.store_claims.Moves.{Keeps, ClaimsAfterChange, ClaimsAfterCommit, ClaimsAfterGiveUp}
 use Rattle.state_store.specs.Claims.{NoRival, ClaimsAfterLogged, ClaimsAfterStop, ClaimsAfterLeft, ClaimsAfterPut}
 
 pub logged_claims : (x : Change) (xs : List Change) (a b c : ClaimWindow) → ClaimsAfterChange x.block a b → ClaimsAfterLogged xs b c → ClaimsAfterLogged (x ∷ xs) a c

@@ -10,11 +10,11 @@ use Rattle.disk_model.specs.Bytes.{written}
 use Rattle.disk_model.specs.Content.{Content, content_of}
 use Rattle.disk_model.specs.Sectors.{sector_of, same_block}
 use Rattle.disk_model.proofs.Frames.{same_block-is}
-use Rattle.store_model.proofs.Told.{true≢false}
-use Rattle.txn_model.specs.Values.{StoreFacts}
-use Rattle.txn_model.specs.Calls.{begun_facts, changed_facts, committed_facts, body_before}
-use Rattle.txn_core.specs.Changes.{IsPresent}
-use Rattle.txn_core.specs.Views.{present_on}
+use Rattle.turn_laws.proofs.store_model.Told.{true≢false}
+use Rattle.turn_laws.specs.txn_model.Values.{StoreFacts}
+use Rattle.turn_laws.specs.txn_model.Calls.{begun_facts, changed_facts, committed_facts, body_before}
+use Rattle.turn_laws.specs.txn_core.Changes.{IsPresent}
+use Rattle.turn_laws.specs.txn_core.Views.{present_on}
 use Rattle.state_store.specs.Windows.{changed_content, changed_by}
 use Rattle.state_store.specs.Logging.{ChangedBy, StoppedBy}
 use Rattle.state_store.proofs.Lists.{body_with}

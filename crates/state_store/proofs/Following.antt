@@ -4,12 +4,12 @@ use Rattle.host_base.specs.Answers.{◌>>=◌}
 use Rattle.disk_model.specs.Content.{Content}
 use Rattle.disk_model.specs.declared.block.Change.{Change}
 use Rattle.block_view.specs.Changes.{content_after}
-use Rattle.state_model.specs.declared.geometry.Geometry.{Geometry}
-use Rattle.state_model.specs.declared.geometry.MapRefusal.{MapRefusal}
-use Rattle.volume_model.specs.Volumes.{Volume, volume_of}
-use Rattle.stream_laws.proofs.Rewriting.{volume_parts}
-use Rattle.map_change.specs.Parts.{MapParts, parts_of, map_of}
-use Rattle.plan_owners.specs.States.{Stands}
+use Rattle.same_names.specs.state_model.declared.geometry.Geometry.{Geometry}
+use Rattle.same_names.specs.state_model.declared.geometry.MapRefusal.{MapRefusal}
+use Rattle.same_names.specs.volume_model.Volumes.{Volume, volume_of}
+use Rattle.same_names.proofs.stream_laws.Rewriting.{volume_parts}
+use Rattle.same_names.specs.map_change.Parts.{MapParts, parts_of, map_of}
+use Rattle.state_blocks.specs.plan_owners.States.{Stands}
 use Rattle.state_store.specs.Volumes.{geometry_of, IsStateOf}
 use Rattle.state_store.specs.Changes.{LeadsOn}
 use Rattle.state_store.specs.Preparing.{HaveMaps}

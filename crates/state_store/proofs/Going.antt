@@ -4,14 +4,14 @@ use Rattle.std.proofs.Math.Seq.{drop-cons}
 use Rattle.std.proofs.lemmas.List.{drop_all}
 use Rattle.disk_model.specs.declared.block.Change.{Change}
 use Rattle.sector_device.specs.Moments.{Changes}
-use Rattle.store_claims.specs.Windows.{StoreWindow}
-use Rattle.txn_model.specs.Values.{StoreFacts}
-use Rattle.txn_model.specs.Calls.{given_up_facts}
-use Rattle.txn_state.specs.States.{IsStore}
-use Rattle.txn_laws.specs.Windows.{Simulates, AfterChange, AfterGiveUp}
-use Rattle.txn_log.specs.Laws.{PagesAreEnough}
-use Rattle.txn_core.specs.declared.fault.ChangeFault.{ChangeFault}
-use Rattle.txn_core.specs.Changes.{MayChangeNow, HasChanged}
+use Rattle.turn_laws.specs.store_claims.Windows.{StoreWindow}
+use Rattle.turn_laws.specs.txn_model.Values.{StoreFacts}
+use Rattle.turn_laws.specs.txn_model.Calls.{given_up_facts}
+use Rattle.turn_laws.specs.txn_state.States.{IsStore}
+use Rattle.turn_laws.specs.txn_laws.Windows.{Simulates, AfterChange, AfterGiveUp}
+use Rattle.turn_laws.specs.txn_log.Laws.{PagesAreEnough}
+use Rattle.turn_laws.specs.txn_core.declared.fault.ChangeFault.{ChangeFault}
+use Rattle.turn_laws.specs.txn_core.Changes.{MayChangeNow, HasChanged}
 use Rattle.state_store.specs.Windows.{LeadsTo, AfterLogged, AfterStop, AfterLogging}
 use Rattle.state_store.specs.Logging.{MayLogAll, ChangedBy, StoppedBy, HasLogged}
 use Rattle.state_store.proofs.Logged.{may_change_first, may_log_rest}

@@ -1,3 +1,12 @@
+pub use Rattle.same_names.proofs.stream_laws
+pub use Rattle.state_blocks.proofs as state_blocks
+pub use Rattle.state_blocks.proofs.plan_owners
+pub use Rattle.turn_laws.proofs.device_view
+pub use Rattle.turn_laws.proofs.ring_laws
+pub use Rattle.turn_laws.proofs.store_model
+pub use Rattle.turn_laws.proofs.txn_core
+pub use Rattle.turn_laws.proofs.txn_laws
+pub use Rattle.turn_laws.proofs.txn_state
 pub mod Claiming
 pub mod Lists
 pub mod Contents

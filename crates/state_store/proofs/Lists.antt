@@ -13,8 +13,8 @@ use Rattle.disk_model.specs.Sectors.{same_block}
 use Rattle.disk_model.specs.Writes.{bytes_after}
 use Rattle.disk_model.proofs.Frames.{same_block-is, overlay_elsewhere}
 use Rattle.block_view.specs.Changes.{writes_of, content_after}
-use Rattle.store_model.proofs.Told.{true≢false}
-use Rattle.stream_laws.proofs.Changing.{has_sectors}
+use Rattle.turn_laws.proofs.store_model.Told.{true≢false}
+use Rattle.same_names.proofs.stream_laws.Changing.{has_sectors}
 use Rattle.state_blocks.specs.Drafts.{is_changed}
 use Rattle.state_store.specs.Changes.{IsWritable}
 use Rattle.state_store.specs.Windows.{changed_content, changed_by}

@@ -14,17 +14,17 @@ use Rattle.disk_model.proofs.Frames.{same_block-is, length-written, bytes_elsewh
 use Rattle.fixup_record.specs.Spellings.{has_spelling}
 use Rattle.block_view.specs.Changes.{writes_of, content_after}
 use Rattle.log_model.specs.Logs.{is_in_grid}
-use Rattle.store_model.specs.Volumes.{is_free}
-use Rattle.store_model.proofs.Told.{true≢false, rivals_both}
-use Rattle.txn_model.specs.Values.{StoreFacts, own_of}
-use Rattle.txn_model.specs.Calls.{begun_facts, body_before, changed_facts}
-use Rattle.txn_state.specs.States.{HasSize, IsStore}
-use Rattle.txn_laws.proofs.Syncs.{and_left}
-use Rattle.txn_log.specs.Counts.{pages_needed}
-use Rattle.txn_log.specs.Laws.{HasRoom, IsLogged, PagesAreEnough}
-use Rattle.txn_log.proofs.Sharing.{same_self}
-use Rattle.txn_core.specs.Changes.{IsPresent, MayChangeNow}
-use Rattle.txn_core.specs.Views.{present_on}
+use Rattle.turn_laws.specs.store_model.Volumes.{is_free}
+use Rattle.turn_laws.proofs.store_model.Told.{true≢false, rivals_both}
+use Rattle.turn_laws.specs.txn_model.Values.{StoreFacts, own_of}
+use Rattle.turn_laws.specs.txn_model.Calls.{begun_facts, body_before, changed_facts}
+use Rattle.turn_laws.specs.txn_state.States.{HasSize, IsStore}
+use Rattle.turn_laws.proofs.txn_laws.Syncs.{and_left}
+use Rattle.turn_laws.specs.txn_log.Counts.{pages_needed}
+use Rattle.turn_laws.specs.txn_log.Laws.{HasRoom, IsLogged, PagesAreEnough}
+use Rattle.turn_laws.proofs.txn_log.Sharing.{same_self}
+use Rattle.turn_laws.specs.txn_core.Changes.{IsPresent, MayChangeNow}
+use Rattle.turn_laws.specs.txn_core.Views.{present_on}
 use Rattle.state_store.specs.Changes.{MayLog, AreBeside, AreApart}
 use Rattle.state_store.specs.Rooms.{pages_of_changes}
 use Rattle.state_store.specs.Logging.{AreSpelled, MayLogAll}

@@ -9,11 +9,11 @@ use Rattle.disk_model.specs.declared.block.Body.{Body}
 use Rattle.disk_model.specs.declared.block.Change.{Change}
 use Rattle.disk_model.specs.Sectors.{same_block, are_rivals}
 use Rattle.disk_model.proofs.Frames.{same_block-is}
-use Rattle.store_model.proofs.Told.{true≢false, rivals_both, rivals_other}
-use Rattle.log_page.specs.declared.places.LogPlace.{LogPlace}
-use Rattle.txn_model.specs.declared.mark.Mark.{Mark}
-use Rattle.txn_model.specs.Values.{StoreFacts}
-use Rattle.txn_model.specs.Calls.{begun_facts, changed_facts, committed_facts, given_up_facts}
+use Rattle.turn_laws.proofs.store_model.Told.{true≢false, rivals_both, rivals_other}
+use Rattle.turn_laws.specs.log_page.declared.places.LogPlace.{LogPlace}
+use Rattle.turn_laws.specs.txn_model.declared.mark.Mark.{Mark}
+use Rattle.turn_laws.specs.txn_model.Values.{StoreFacts}
+use Rattle.turn_laws.specs.txn_model.Calls.{begun_facts, changed_facts, committed_facts, given_up_facts}
 use Rattle.state_blocks.specs.Drafts.{is_changed}
 use Rattle.state_store.specs.Changes.{AreBeside, AreApart}
 use Rattle.state_store.specs.Logging.{ChangedBy, StoppedBy}

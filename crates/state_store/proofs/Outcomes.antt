@@ -13,18 +13,18 @@ use Rattle.fixup_record.specs.Spellings.{has_spelling}
 use Rattle.sector_device.specs.Moments.{Changes}
 use Rattle.sector_device.specs.Sectors.{IsDiskOf}
 use Rattle.block_view.specs.Changes.{content_after}
-use Rattle.device_view.specs.Devices.{CountsOnDevice, CountsCauseOnDevice}
-use Rattle.log_page.specs.declared.places.LogPlace.{LogPlace}
-use Rattle.map_change.specs.Parts.{MapParts, map_of}
-use Rattle.txn_model.specs.Values.{StoreFacts}
-use Rattle.txn_state.specs.States.{StateOf, facts_of, HasSize, IsStore}
-use Rattle.txn_laws.proofs.Telling.{is_open_of}
-use Rattle.txn_core.specs.declared.fault.ChangeFault.{ChangeFault}
-use Rattle.txn_core.specs.declared.fault.ChangeFault.TheVariants as causes
-use Rattle.txn_core.specs.Changes.{change_cause}
-use Rattle.txn_core.specs.Seen.{Seen}
-use Rattle.txn_core.specs.Sizes.{sized_present}
-use Rattle.txn_core.specs.Views.{present_on, present_content, KeepsSizes}
+use Rattle.turn_laws.specs.device_view.Devices.{CountsOnDevice, CountsCauseOnDevice}
+use Rattle.turn_laws.specs.log_page.declared.places.LogPlace.{LogPlace}
+use Rattle.same_names.specs.map_change.Parts.{MapParts, map_of}
+use Rattle.turn_laws.specs.txn_model.Values.{StoreFacts}
+use Rattle.turn_laws.specs.txn_state.States.{StateOf, facts_of, HasSize, IsStore}
+use Rattle.turn_laws.proofs.txn_laws.Telling.{is_open_of}
+use Rattle.turn_laws.specs.txn_core.declared.fault.ChangeFault.{ChangeFault}
+use Rattle.turn_laws.specs.txn_core.declared.fault.ChangeFault.TheVariants as causes
+use Rattle.turn_laws.specs.txn_core.Changes.{change_cause}
+use Rattle.turn_laws.specs.txn_core.Seen.{Seen}
+use Rattle.turn_laws.specs.txn_core.Sizes.{sized_present}
+use Rattle.turn_laws.specs.txn_core.Views.{present_on, present_content, KeepsSizes}
 use Rattle.state_store.specs.declared.fault.PutFault.{PutFault}
 use Rattle.state_store.specs.declared.fault.PutFault.TheVariants.{NeedsRoom, Fault, Memory, Broken}
 use Rattle.state_store.specs.Volumes.{geometry_of, IsStateOf, SparesState, HoldsState}

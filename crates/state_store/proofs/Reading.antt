@@ -6,17 +6,17 @@ use Rattle.host_base.specs.Causes.{Rose, Counts}
 use Rattle.disk_model.specs.declared.block.Change.{Change}
 use Rattle.sector_device.specs.Moments.{Changes}
 use Rattle.block_view.specs.Changes.{content_after}
-use Rattle.device_view.specs.Devices.{BorrowedDevice, failures, CountsOnDevice}
-use Rattle.device_view.proofs.Keeping.{device_failed, device_counts}
-use Rattle.volume_map.specs.declared.fault.MapFault.{MapFault}
-use Rattle.volume_map.specs.declared.fault.MapFault.TheVariants as faults
-use Rattle.volume_map.specs.Errors.{map_cause}
-use Rattle.map_change.specs.Parts.{MapParts, map_of}
-use Rattle.map_change.specs.Applying.{applied}
-use Rattle.map_change.specs.declared.change.MapChange.{MapChange}
-use Rattle.txn_state.specs.States.{StateOf}
-use Rattle.txn_core.specs.Seen.{Seen}
-use Rattle.txn_core.specs.Views.{BorrowedStore, borrowed_store, present_content}
+use Rattle.turn_laws.specs.device_view.Devices.{BorrowedDevice, failures, CountsOnDevice}
+use Rattle.turn_laws.proofs.device_view.Keeping.{device_failed, device_counts}
+use Rattle.same_names.specs.volume_map.declared.fault.MapFault.{MapFault}
+use Rattle.same_names.specs.volume_map.declared.fault.MapFault.TheVariants as faults
+use Rattle.same_names.specs.volume_map.Errors.{map_cause}
+use Rattle.same_names.specs.map_change.Parts.{MapParts, map_of}
+use Rattle.same_names.specs.map_change.Applying.{applied}
+use Rattle.same_names.specs.map_change.declared.change.MapChange.{MapChange}
+use Rattle.turn_laws.specs.txn_state.States.{StateOf}
+use Rattle.turn_laws.specs.txn_core.Seen.{Seen}
+use Rattle.turn_laws.specs.txn_core.Views.{BorrowedStore, borrowed_store, present_content}
 use Rattle.state_store.specs.declared.fault.PutFault.{PutFault}
 use Rattle.state_store.specs.declared.fault.PutFault.TheVariants.{Fault, Broken}
 use Rattle.state_store.specs.Volumes.{geometry_of}

@@ -5,12 +5,12 @@ use Rattle.std.proofs.lemmas.Nat.{le-div}
 use Rattle.std.proofs.lemmas.Bool.{cases_lt, le-leb, lt-leb}
 use Rattle.host_base.specs.Answers.{needs}
 use Rattle.disk_model.specs.declared.block.Change.{Change}
-use Rattle.log_page.specs.Places.{sequence_bits}
-use Rattle.log_area.specs.Areas.{LogAreaOf, ring_size, lap_at, fits, next_number, free_pages}
-use Rattle.txn_model.specs.Values.{StoreFacts}
-use Rattle.txn_log.specs.Counts.{capped}
-use Rattle.txn_log.specs.Laws.{HasRoom}
-use Rattle.txn_core.specs.Rooms.{LacksRoom}
+use Rattle.turn_laws.specs.log_page.Places.{sequence_bits}
+use Rattle.turn_laws.specs.log_area.Areas.{LogAreaOf, ring_size, lap_at, fits, next_number, free_pages}
+use Rattle.turn_laws.specs.txn_model.Values.{StoreFacts}
+use Rattle.turn_laws.specs.txn_log.Counts.{capped}
+use Rattle.turn_laws.specs.txn_log.Laws.{HasRoom}
+use Rattle.turn_laws.specs.txn_core.Rooms.{LacksRoom}
 use Rattle.state_store.specs.Rooms.{pages_of_changes, room_for, room_in, MayNumber}
 
 -- ---- there is room

@@ -13,23 +13,23 @@ use Rattle.sector_device.specs.Moments.{Changes}
 use Rattle.block_view.specs.Changes.{content_after}
 use Rattle.log_model.specs.declared.entry.Entry.{Entry}
 use Rattle.log_model.specs.Logs.{is_in_grid}
-use Rattle.log_page.specs.declared.places.LogPlace.{LogPlace}
-use Rattle.store_model.specs.Logs.{has_update}
-use Rattle.store_model.specs.Stores.{Store}
-use Rattle.store_model.specs.Volumes.{is_known, is_free}
-use Rattle.store_claims.specs.Windows.{StoreWindow}
-use Rattle.store_model.proofs.Told.{true≢false, or_left}
-use Rattle.store_model.proofs.Known.{is_in}
-use Rattle.ring_laws.proofs.SeenDisks.{not_own}
-use Rattle.volume_model.specs.Volumes.{Volume}
-use Rattle.map_change.specs.Parts.{MapParts, map_of}
+use Rattle.turn_laws.specs.log_page.declared.places.LogPlace.{LogPlace}
+use Rattle.turn_laws.specs.store_model.Logs.{has_update}
+use Rattle.turn_laws.specs.store_model.Stores.{Store}
+use Rattle.turn_laws.specs.store_model.Volumes.{is_known, is_free}
+use Rattle.turn_laws.specs.store_claims.Windows.{StoreWindow}
+use Rattle.turn_laws.proofs.store_model.Told.{true≢false, or_left}
+use Rattle.turn_laws.proofs.store_model.Known.{is_in}
+use Rattle.turn_laws.proofs.ring_laws.SeenDisks.{not_own}
+use Rattle.same_names.specs.volume_model.Volumes.{Volume}
+use Rattle.same_names.specs.map_change.Parts.{MapParts, map_of}
 use Rattle.state_blocks.specs.Needing.{IsNeeded}
-use Rattle.txn_model.specs.Values.{StoreFacts, is_own, own_of}
-use Rattle.txn_model.specs.Calls.{begun_facts, committed_facts}
-use Rattle.txn_laws.specs.Standing.{StandsBehind}
-use Rattle.txn_laws.specs.Windows.{HasWindow}
-use Rattle.txn_state.specs.States.{StateOf, facts_of}
-use Rattle.txn_core.specs.Views.{present_on, present_content}
+use Rattle.turn_laws.specs.txn_model.Values.{StoreFacts, is_own, own_of}
+use Rattle.turn_laws.specs.txn_model.Calls.{begun_facts, committed_facts}
+use Rattle.turn_laws.specs.txn_laws.Standing.{StandsBehind}
+use Rattle.turn_laws.specs.txn_laws.Windows.{HasWindow}
+use Rattle.turn_laws.specs.txn_state.States.{StateOf, facts_of}
+use Rattle.turn_laws.specs.txn_core.Views.{present_on, present_content}
 use Rattle.turn_laws.specs.Sparing.{IsSpared}
 use Rattle.state_store.specs.Volumes.{geometry_of, SparesState}
 use Rattle.state_blocks.specs.Drafts.{is_changed}

@@ -12,21 +12,21 @@ use Rattle.disk_model.specs.Content.{Content, body_of, content_of}
 use Rattle.disk_model.specs.Sectors.{sector_of}
 use Rattle.sector_device.specs.Moments.{Changes}
 use Rattle.sector_device.specs.Sectors.{IsDiskOf}
-use Rattle.device_view.proofs.SectorsRead.{raw_from-past}
-use Rattle.log_page.specs.declared.places.LogPlace.{LogPlace}
+use Rattle.turn_laws.proofs.device_view.SectorsRead.{raw_from-past}
+use Rattle.turn_laws.specs.log_page.declared.places.LogPlace.{LogPlace}
 use Rattle.flush_policy.specs.declared.facts.StoreStep.{StoreStep}
-use Rattle.store_model.proofs.Told.{true≢false}
-use Rattle.volume_model.specs.Volumes.{Volume, count_of, record_bytes, record_bits, cluster_bits}
-use Rattle.volume_model.specs.Indexes.{void_block}
-use Rattle.volume_map.specs.declared.head.Head.{Head}
-use Rattle.volume_map.specs.Heads.{head_of, head_at, heads_of}
-use Rattle.map_change.specs.Parts.{MapParts, parts_of}
+use Rattle.turn_laws.proofs.store_model.Told.{true≢false}
+use Rattle.same_names.specs.volume_model.Volumes.{Volume, count_of, record_bytes, record_bits, cluster_bits}
+use Rattle.same_names.specs.volume_model.Indexes.{void_block}
+use Rattle.same_names.specs.volume_map.declared.head.Head.{Head}
+use Rattle.same_names.specs.volume_map.Heads.{head_of, head_at, heads_of}
+use Rattle.same_names.specs.map_change.Parts.{MapParts, parts_of}
 use Rattle.state_blocks.specs.Needing.{AgreeOnNeeded, NeededIsAll}
-use Rattle.txn_model.specs.Values.{StoreFacts}
-use Rattle.txn_state.specs.States.{StateOf, facts_of, IsStore}
-use Rattle.txn_core.specs.Seen.{Seen, TakesStep}
-use Rattle.txn_core.specs.Steps.{MayTurn, HasTurned, TurnsDevice, AfterTurn}
-use Rattle.txn_core.specs.Views.{present_on, present_content}
+use Rattle.turn_laws.specs.txn_model.Values.{StoreFacts}
+use Rattle.turn_laws.specs.txn_state.States.{StateOf, facts_of, IsStore}
+use Rattle.turn_laws.specs.txn_core.Seen.{Seen, TakesStep}
+use Rattle.turn_laws.specs.txn_core.Steps.{MayTurn, HasTurned, TurnsDevice, AfterTurn}
+use Rattle.turn_laws.specs.txn_core.Views.{present_on, present_content}
 use Rattle.turn_laws.specs.Sparing.{StepSpares, StepsSpare}
 use Rattle.state_store.specs.Volumes.{geometry_of, IsStateOf, SparesState, HoldsState}
 use Rattle.state_store.specs.Turns.{TurnsVolume}

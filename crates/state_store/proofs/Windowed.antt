@@ -10,16 +10,16 @@ use Rattle.disk_model.proofs.Frames.{same_block-is}
 use Rattle.sector_device.specs.Disks.{Disk}
 use Rattle.sector_device.specs.Moments.{Changes}
 use Rattle.log_model.specs.declared.entry.Entry.{Entry}
-use Rattle.store_model.specs.Logs.{AllBytes, back, undone, has_update}
-use Rattle.store_model.specs.Stores.{Store, Window, member}
-use Rattle.store_model.specs.Volumes.{window_of, first_bytes}
-use Rattle.store_claims.specs.Windows.{StoreWindow, store_window}
-use Rattle.txn_model.specs.Values.{StoreFacts}
-use Rattle.txn_laws.specs.Standing.{StandsBehind}
-use Rattle.txn_laws.specs.Windows.{HasWindow, Simulates, AfterBegin, AfterChange, AfterCommit, AfterGiveUp}
-use Rattle.txn_laws.proofs.Memory.{undone_none}
-use Rattle.txn_state.specs.States.{facts_of}
-use Rattle.txn_core.specs.Seen.{Seen, TakesStep}
+use Rattle.turn_laws.specs.store_model.Logs.{AllBytes, back, undone, has_update}
+use Rattle.turn_laws.specs.store_model.Stores.{Store, Window, member}
+use Rattle.turn_laws.specs.store_model.Volumes.{window_of, first_bytes}
+use Rattle.turn_laws.specs.store_claims.Windows.{StoreWindow, store_window}
+use Rattle.turn_laws.specs.txn_model.Values.{StoreFacts}
+use Rattle.turn_laws.specs.txn_laws.Standing.{StandsBehind}
+use Rattle.turn_laws.specs.txn_laws.Windows.{HasWindow, Simulates, AfterBegin, AfterChange, AfterCommit, AfterGiveUp}
+use Rattle.turn_laws.proofs.txn_laws.Memory.{undone_none}
+use Rattle.turn_laws.specs.txn_state.States.{facts_of}
+use Rattle.turn_laws.specs.txn_core.Seen.{Seen, TakesStep}
 use Rattle.state_store.specs.Windows.{changed_content, changed_by, LeadsTo, AfterLogged, AfterStop, AfterLogging, AfterPut, StaysWindow}
 use Rattle.state_store.proofs.Lists.{body_with, same_body}
 use Rattle.state_store.proofs.Claiming.{logged_claims, none_logged, stopped_claims, given_up_claims, put_claims, left_claims}

@@ -7,13 +7,13 @@ use Rattle.disk_model.specs.Content.{Content}
 use Rattle.disk_model.specs.Sectors.{sectors, same_block, are_rivals}
 use Rattle.fixup_record.specs.Spellings.{has_spelling}
 use Rattle.block_view.specs.Changes.{Fits, content_after}
-use Rattle.volume_model.specs.Volumes.{Volume, upper_of}
-use Rattle.map_change.specs.Parts.{MapParts}
-use Rattle.plan_owners.specs.States.{Stands}
+use Rattle.same_names.specs.volume_model.Volumes.{Volume, upper_of}
+use Rattle.same_names.specs.map_change.Parts.{MapParts}
+use Rattle.state_blocks.specs.plan_owners.States.{Stands}
 use Rattle.state_blocks.specs.Drafts.{DraftIn}
-use Rattle.store_model.specs.Volumes.{is_known}
+use Rattle.turn_laws.specs.store_model.Volumes.{is_known}
 use Rattle.same_names.specs.Names.{SameNames}
-use Rattle.txn_model.specs.Values.{StoreFacts, own_of}
+use Rattle.turn_laws.specs.txn_model.Values.{StoreFacts, own_of}
 use Rattle.state_store.specs.Volumes.{geometry_of}
 
 -- The change brings some bytes, inside the body of a block that is in the grid and in no sector which the log keeps for itself, begins in the volume and lies on the device.

@@ -5,8 +5,8 @@ use Rattle.disk_model.specs.declared.block.Block.{Block}
 use Rattle.disk_model.specs.declared.block.Change.{Change}
 use Rattle.disk_model.specs.Sectors.{are_rivals}
 use Rattle.state_blocks.specs.Drafts.{is_changed}
-use Rattle.store_claims.specs.Claims.{ClaimWindow}
-use Rattle.store_claims.specs.Moves.{Keeps}
+use Rattle.turn_laws.specs.store_claims.Claims.{ClaimWindow}
+use Rattle.turn_laws.specs.store_claims.Moves.{Keeps}
 
 -- no change is of a rival of the block
 abbrev pub NoRival : List Change → Block → Type 0

@@ -7,11 +7,11 @@ use Rattle.disk_model.specs.declared.block.Change.{Change}
 use Rattle.disk_model.specs.Sectors.{are_rivals}
 use Rattle.fixup_record.specs.Spellings.{has_spelling}
 use Rattle.block_view.specs.Changes.{content_after}
-use Rattle.txn_model.specs.Values.{StoreFacts}
-use Rattle.txn_model.specs.Calls.{begun_facts, changed_facts, committed_facts, given_up_facts}
-use Rattle.txn_log.specs.Laws.{HasRoom}
-use Rattle.txn_core.specs.Changes.{IsPresent}
-use Rattle.txn_core.specs.Views.{present_on}
+use Rattle.turn_laws.specs.txn_model.Values.{StoreFacts}
+use Rattle.turn_laws.specs.txn_model.Calls.{begun_facts, changed_facts, committed_facts, given_up_facts}
+use Rattle.turn_laws.specs.txn_log.Laws.{HasRoom}
+use Rattle.turn_laws.specs.txn_core.Changes.{IsPresent}
+use Rattle.turn_laws.specs.txn_core.Views.{present_on}
 use Rattle.state_store.specs.Changes.{MayLog, AreApart}
 use Rattle.state_store.specs.Rooms.{pages_of_changes}
 

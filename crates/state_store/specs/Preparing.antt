@@ -4,12 +4,12 @@ use Rattle.host_base.specs.Answers.{Cause}
 use Rattle.host_base.specs.Causes.{HasFailed, last_moment}
 use Rattle.disk_model.specs.Content.{Content}
 use Rattle.sector_device.specs.Moments.{Changes}
-use Rattle.device_view.specs.Devices.{CountsOnDevice}
-use Rattle.volume_map.specs.declared.fault.MapFault.{MapFault}
-use Rattle.volume_map.specs.declared.fault.MapFault.TheVariants as faults
-use Rattle.map_change.specs.Parts.{MapParts, map_of}
+use Rattle.turn_laws.specs.device_view.Devices.{CountsOnDevice}
+use Rattle.same_names.specs.volume_map.declared.fault.MapFault.{MapFault}
+use Rattle.same_names.specs.volume_map.declared.fault.MapFault.TheVariants as faults
+use Rattle.same_names.specs.map_change.Parts.{MapParts, map_of}
 use Rattle.same_names.specs.Names.{SameNames}
-use Rattle.txn_core.specs.Seen.{Seen}
+use Rattle.turn_laws.specs.txn_core.Seen.{Seen}
 use Rattle.state_store.specs.declared.fault.PutFault.{PutFault}
 use Rattle.state_store.specs.declared.fault.PutFault.TheVariants.{NeedsRoom, Fault, Memory, Broken}
 use Rattle.state_store.specs.Volumes.{geometry_of}

@@ -7,16 +7,16 @@ use Rattle.disk_model.specs.declared.block.Change.{Change}
 use Rattle.disk_model.specs.Content.{Content}
 use Rattle.sector_device.specs.Moments.{Changes}
 use Rattle.block_view.specs.Changes.{content_after}
-use Rattle.device_view.specs.Devices.{CountsOnDevice}
-use Rattle.map_change.specs.Parts.{MapParts, map_of}
-use Rattle.txn_core.specs.declared.fault.ChangeFault.{ChangeFault}
-use Rattle.txn_core.specs.declared.fault.ChangeFault.TheVariants as faults
+use Rattle.turn_laws.specs.device_view.Devices.{CountsOnDevice}
+use Rattle.same_names.specs.map_change.Parts.{MapParts, map_of}
+use Rattle.turn_laws.specs.txn_core.declared.fault.ChangeFault.{ChangeFault}
+use Rattle.turn_laws.specs.txn_core.declared.fault.ChangeFault.TheVariants as faults
 use Rattle.state_store.specs.declared.fault.PutFault.{PutFault}
 use Rattle.state_store.specs.declared.fault.PutFault.TheVariants.{NeedsRoom, Fault, Memory, Broken}
-use Rattle.txn_model.specs.Values.{StoreFacts}
-use Rattle.txn_state.specs.States.{StateOf, facts_of}
-use Rattle.txn_core.specs.Seen.{Seen}
-use Rattle.txn_core.specs.Views.{present_content}
+use Rattle.turn_laws.specs.txn_model.Values.{StoreFacts}
+use Rattle.turn_laws.specs.txn_state.States.{StateOf, facts_of}
+use Rattle.turn_laws.specs.txn_core.Seen.{Seen}
+use Rattle.turn_laws.specs.txn_core.Views.{present_content}
 use Rattle.state_store.specs.Volumes.{geometry_of}
 use Rattle.state_store.specs.Windows.{LeadsTo, AfterPutting}
 use Rattle.state_store.specs.Logging.{HasCommitted}

@@ -2,11 +2,11 @@
 use Rattle.std.specs.Prelude.{ℕ, ◌^◌, ◌<◌, nat_le, List, Result}
 use Rattle.host_base.specs.Answers.{Cause, refused, no_memory, failed, needs}
 use Rattle.disk_model.specs.declared.block.Change.{Change}
-use Rattle.log_page.specs.Places.{sequence_bits}
-use Rattle.log_area.specs.Areas.{free_pages}
-use Rattle.txn_model.specs.Values.{StoreFacts}
-use Rattle.txn_log.specs.Counts.{capped, pages_needed}
-use Rattle.txn_laws.specs.Windows.{lap_behind}
+use Rattle.turn_laws.specs.log_page.Places.{sequence_bits}
+use Rattle.turn_laws.specs.log_area.Areas.{free_pages}
+use Rattle.turn_laws.specs.txn_model.Values.{StoreFacts}
+use Rattle.turn_laws.specs.txn_log.Counts.{capped, pages_needed}
+use Rattle.turn_laws.specs.txn_laws.Windows.{lap_behind}
 use Rattle.state_store.specs.declared.fault.PutFault.{PutFault}
 use Rattle.state_store.specs.declared.fault.PutFault.TheVariants.{NeedsRoom, Fault, Memory, Broken}
 

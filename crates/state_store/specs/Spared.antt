@@ -4,12 +4,12 @@ use Rattle.std.specs.List.{AllByRecursion}
 use Rattle.disk_model.specs.declared.block.Block.{Block}
 use Rattle.disk_model.specs.declared.block.Change.{Change}
 use Rattle.sector_device.specs.Moments.{Changes}
-use Rattle.map_change.specs.Parts.{MapParts}
+use Rattle.same_names.specs.map_change.Parts.{MapParts}
 use Rattle.state_blocks.specs.Needing.{IsNeeded}
-use Rattle.store_claims.specs.Windows.{StoreWindow}
-use Rattle.txn_state.specs.States.{StateOf, facts_of}
-use Rattle.txn_laws.specs.Windows.{HasWindow}
-use Rattle.txn_core.specs.Views.{present_on}
+use Rattle.turn_laws.specs.store_claims.Windows.{StoreWindow}
+use Rattle.turn_laws.specs.txn_state.States.{StateOf, facts_of}
+use Rattle.turn_laws.specs.txn_laws.Windows.{HasWindow}
+use Rattle.turn_laws.specs.txn_core.Views.{present_on}
 use Rattle.turn_laws.specs.Sparing.{IsSpared}
 use Rattle.state_store.specs.declared.fault.PutFault.{PutFault}
 use Rattle.state_store.specs.Changes.{MayLog, AreApart, LeadsOn}

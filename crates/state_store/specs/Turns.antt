@@ -2,11 +2,11 @@
 use Rattle.std.specs.Prelude.{◌≡◌, ℕ, List, Option, Some, None, ⊤}
 use Rattle.disk_model.specs.Content.{Content}
 use Rattle.sector_device.specs.Moments.{Changes}
-use Rattle.volume_model.specs.Volumes.{Volume}
-use Rattle.map_change.specs.Parts.{MapParts}
+use Rattle.same_names.specs.volume_model.Volumes.{Volume}
+use Rattle.same_names.specs.map_change.Parts.{MapParts}
 use Rattle.state_blocks.specs.Needing.{AgreeOnNeeded}
-use Rattle.txn_state.specs.States.{StateOf}
-use Rattle.txn_core.specs.Views.{present_content}
+use Rattle.turn_laws.specs.txn_state.States.{StateOf}
+use Rattle.turn_laws.specs.txn_core.Views.{present_content}
 use Rattle.state_store.specs.Volumes.{HoldsState}
 
 -- the second content agrees with the first one on the blocks from which this is read as a state; and it is known where that is

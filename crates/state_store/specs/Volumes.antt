@@ -2,17 +2,17 @@
 use Rattle.std.specs.Prelude.{◌≡◌, ℕ, ◌^◌, ◌≤◌, false, List, Option, IfSome}
 use Rattle.disk_model.specs.declared.block.Block.{Block}
 use Rattle.disk_model.specs.Content.{Content}
-use Rattle.state_model.specs.declared.geometry.Geometry.{Geometry}
+use Rattle.same_names.specs.state_model.declared.geometry.Geometry.{Geometry}
 use Rattle.sector_device.specs.Moments.{Changes}
-use Rattle.volume_model.specs.Volumes.{Volume, upper_of}
-use Rattle.map_change.specs.Parts.{MapParts, parts_of}
-use Rattle.plan_owners.specs.States.{Stands}
+use Rattle.same_names.specs.volume_model.Volumes.{Volume, upper_of}
+use Rattle.same_names.specs.map_change.Parts.{MapParts, parts_of}
+use Rattle.state_blocks.specs.plan_owners.States.{Stands}
 use Rattle.state_blocks.specs.Needing.{IsNeeded}
-use Rattle.store_claims.specs.Windows.{StoreWindow}
-use Rattle.txn_model.specs.Values.{StoreFacts}
-use Rattle.txn_laws.specs.Windows.{HasWindow}
-use Rattle.txn_state.specs.States.{StateOf, facts_of}
-use Rattle.txn_core.specs.Views.{present_on, present_content}
+use Rattle.turn_laws.specs.store_claims.Windows.{StoreWindow}
+use Rattle.turn_laws.specs.txn_model.Values.{StoreFacts}
+use Rattle.turn_laws.specs.txn_laws.Windows.{HasWindow}
+use Rattle.turn_laws.specs.txn_state.States.{StateOf, facts_of}
+use Rattle.turn_laws.specs.txn_core.Views.{present_on, present_content}
 use Rattle.turn_laws.specs.Sparing.{IsSpared}
 
 -- where the file table of a map's volume is found

@@ -6,9 +6,9 @@ use Rattle.disk_model.specs.Bytes.{written}
 use Rattle.disk_model.specs.Content.{Content}
 use Rattle.disk_model.specs.Sectors.{same_block}
 use Rattle.sector_device.specs.Moments.{Changes}
-use Rattle.store_claims.specs.Windows.{StoreWindow}
-use Rattle.txn_model.specs.Values.{StoreFacts}
-use Rattle.txn_laws.specs.Windows.{HasWindow}
+use Rattle.turn_laws.specs.store_claims.Windows.{StoreWindow}
+use Rattle.turn_laws.specs.txn_model.Values.{StoreFacts}
+use Rattle.turn_laws.specs.txn_laws.Windows.{HasWindow}
 use Rattle.state_store.specs.Claims.{ClaimsAfterLogged, ClaimsAfterStop, ClaimsAfterLeft, ClaimsAfterPut}
 
 -- the content with a change made to it: a store writes the body whole, so that it isn't torn

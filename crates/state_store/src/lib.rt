@@ -22,4 +22,7 @@ pub use flush_policy::StoreStep;
 pub use host_base::Failed;
 pub use laws::puts_spare;
 pub use putting::put_changes;
+pub use same_names::LiveMap;
+pub use state_blocks::needed_is_all;
+pub use turn_laws::{Store, StoreView, endings_tell, steps_lead_on, steps_spare, windows_tell};
 pub use turning::turn_store;

@@ -1,10 +1,10 @@
 //! Changes of blocks in one transaction.
 ghost use Rattle.std.specs.Prelude.{◌≡◌, ◌^◌, ◌<◌, true, false, [], All, OnOk, IfErr, IfSome, None};
-ghost use Rattle.device_view.specs.Devices.{CountsOnDevice};
-ghost use Rattle.txn_log.specs.Laws.{HasRoom};
-ghost use Rattle.txn_state.specs.States.{facts_of};
-ghost use Rattle.txn_core.specs.declared.fault.ChangeFault.TheVariants.{Unspelled};
-ghost use Rattle.txn_core.specs.Changes.{change_cause};
+ghost use Rattle.turn_laws.specs.device_view.Devices.{CountsOnDevice};
+ghost use Rattle.turn_laws.specs.txn_log.Laws.{HasRoom};
+ghost use Rattle.turn_laws.specs.txn_state.States.{facts_of};
+ghost use Rattle.turn_laws.specs.txn_core.declared.fault.ChangeFault.TheVariants.{Unspelled};
+ghost use Rattle.turn_laws.specs.txn_core.Changes.{change_cause};
 ghost use Rattle.state_store.specs.Changes.{MayLog, AreApart};
 ghost use Rattle.state_store.specs.Rooms.{pages_of_changes};
 ghost use Rattle.state_store.specs.Logging.{AreSpelled, MayLogAll, HasLogged, HasCommitted};
@@ -13,8 +13,7 @@ ghost use Rattle.state_store.specs.Windows.{LeadsTo, AfterLogging, AfterCommitte
 use disk_model::Change;
 use sector_device::Device;
 use std::alloc::Global;
-use txn_core::{ChangeFault, Store};
-use txn_log::pages_are_enough;
+use turn_laws::{ChangeFault, Store, pages_are_enough};
 
 // Law: a change's block begins in a sector whose number has 64 bits.
 fn is_near(change: &Change)

@@ -3,26 +3,24 @@ ghost use Rattle.std.specs.Prelude.{◌≡◌, ◌<◌, All, Ok, IfOk, IfErr, If
 ghost use Rattle.host_base.specs.Answers.{GivesOrFails};
 ghost use Rattle.host_base.specs.Causes.{HasFailed, last_moment};
 ghost use Rattle.block_view.specs.Changes.{Fits, content_after};
-ghost use Rattle.device_view.specs.Devices.{CountsOnDevice};
-ghost use Rattle.volume_map.specs.Errors.{map_cause};
-ghost use Rattle.map_change.specs.Parts.{map_of, live_parts};
-ghost use Rattle.map_change.specs.Applying.{applied, HasRoom};
+ghost use Rattle.turn_laws.specs.device_view.Devices.{CountsOnDevice};
+ghost use Rattle.same_names.specs.volume_map.Errors.{map_cause};
+ghost use Rattle.same_names.specs.map_change.Parts.{map_of, live_parts};
+ghost use Rattle.same_names.specs.map_change.Applying.{applied, HasRoom};
 ghost use Rattle.same_names.specs.Names.{SameNames};
-ghost use Rattle.txn_core.specs.Views.{present_content};
+ghost use Rattle.turn_laws.specs.txn_core.Views.{present_content};
 ghost use Rattle.state_store.specs.declared.fault.PutFault.TheVariants.{Broken};
 ghost use Rattle.state_store.specs.Volumes.{geometry_of};
 ghost use Rattle.state_store.specs.Preparing.{KeepsSeen, FailsSeen, CountsSeen, HaveMaps, NeverShort, TellsWhether, prepare_fault};
 ghost use Rattle.state_store.specs.Puts.{put_cause};
 
 use crate::fault::PutFault;
-use device_view::piece_room;
 use disk_model::Change;
 use host_base::Memory;
-use map_change::{LiveMap, MapChange, MapFault, prepare};
-use same_names::keeps_names;
+use same_names::{LiveMap, MapChange, MapFault, keeps_names, prepare};
 use sector_device::Device;
 use std::alloc::Global;
-use txn_core::{Store, StoreView};
+use turn_laws::{Store, StoreView, piece_room};
 
 // What makes the map that of the store's content after the changes, read through room for a piece
 // of its device.

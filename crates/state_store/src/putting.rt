@@ -2,15 +2,15 @@
 ghost use Rattle.std.specs.Prelude.{◌≡◌, ◌^◌, ◌<◌, false, All, IfErr, IfSome, None, Ok, OnOk, length};
 ghost use Rattle.host_base.specs.Answers.{GivesOrFails};
 ghost use Rattle.block_view.specs.Changes.{Fits, content_after};
-ghost use Rattle.device_view.specs.Devices.{CountsOnDevice};
-ghost use Rattle.map_change.specs.Parts.{live_parts, map_of};
-ghost use Rattle.map_change.specs.Applying.{applied, HasRoom as HasMapRoom};
+ghost use Rattle.turn_laws.specs.device_view.Devices.{CountsOnDevice};
+ghost use Rattle.same_names.specs.map_change.Parts.{live_parts, map_of};
+ghost use Rattle.same_names.specs.map_change.Applying.{applied, HasRoom as HasMapRoom};
 ghost use Rattle.same_names.specs.Names.{SameNames};
-ghost use Rattle.txn_log.specs.Laws.{HasRoom};
-ghost use Rattle.txn_state.specs.States.{facts_of};
-ghost use Rattle.txn_core.specs.declared.fault.ChangeFault.TheVariants.{Unspelled};
-ghost use Rattle.txn_core.specs.Changes.{change_cause};
-ghost use Rattle.txn_core.specs.Views.{present_content};
+ghost use Rattle.turn_laws.specs.txn_log.Laws.{HasRoom};
+ghost use Rattle.turn_laws.specs.txn_state.States.{facts_of};
+ghost use Rattle.turn_laws.specs.txn_core.declared.fault.ChangeFault.TheVariants.{Unspelled};
+ghost use Rattle.turn_laws.specs.txn_core.Changes.{change_cause};
+ghost use Rattle.turn_laws.specs.txn_core.Views.{present_content};
 ghost use Rattle.state_store.specs.Volumes.{geometry_of, HoldsState};
 ghost use Rattle.state_store.specs.Changes.{MayLog, AreApart, AreWritable, LeadsOn};
 ghost use Rattle.state_store.specs.Rooms.{pages_of_changes, room_in, room_cause, MayNumber};
@@ -22,11 +22,10 @@ use crate::logging::log_changes;
 use crate::preparing::prepare_changes;
 use crate::rooms::find_room;
 use disk_model::Change;
-use map_change::{LiveMap, MapChange, apply};
+use same_names::{LiveMap, MapChange, Upcase, apply};
 use sector_device::Device;
 use std::alloc::Global;
-use txn_core::{ChangeFault, Store};
-use upcase_order::Upcase;
+use turn_laws::{ChangeFault, Store};
 
 // What a change's fault is to a volume.
 fn change_fault(fault: ChangeFault) -> PutFault

@@ -2,16 +2,16 @@
 ghost use Rattle.std.specs.Prelude.{◌≡◌, ◌^◌, ◌<◌, ◌≤◌, true, All, OnOk};
 ghost use Rattle.host_base.specs.Answers.{Gives};
 ghost use Rattle.log_model.specs.Logs.{is_in_grid};
-ghost use Rattle.log_area.specs.Areas.{free_pages};
-ghost use Rattle.txn_log.specs.Laws.{HasRoom};
-ghost use Rattle.txn_state.specs.States.{facts_of};
+ghost use Rattle.turn_laws.specs.log_area.Areas.{free_pages};
+ghost use Rattle.turn_laws.specs.txn_log.Laws.{HasRoom};
+ghost use Rattle.turn_laws.specs.txn_state.States.{facts_of};
 ghost use Rattle.state_store.specs.Rooms.{pages_of_changes, room_in, room_cause, MayNumber};
 
 use crate::fault::PutFault;
 use disk_model::Change;
 use sector_device::Device;
 use std::alloc::Global;
-use txn_core::Store;
+use turn_laws::Store;
 
 // The free pages of the log.
 fn free_pages<D: Device>(store: &Store<D>) -> u64

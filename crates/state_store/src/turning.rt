@@ -1,22 +1,20 @@
 //! The steps of a volume's store.
 ghost use Rattle.std.specs.Prelude.{◌≡◌};
 ghost use Rattle.host_base.specs.Causes.{FailsByCause};
-ghost use Rattle.map_change.specs.Parts.{live_parts};
-ghost use Rattle.txn_state.specs.States.{facts_of};
-ghost use Rattle.txn_core.specs.Seen.{TakesStep};
-ghost use Rattle.txn_core.specs.Steps.{MayTurn, HasTurned, TurnsDevice, AfterTurn};
-ghost use Rattle.txn_core.specs.Views.{present_content};
+ghost use Rattle.same_names.specs.map_change.Parts.{live_parts};
+ghost use Rattle.turn_laws.specs.txn_state.States.{facts_of};
+ghost use Rattle.turn_laws.specs.txn_core.Seen.{TakesStep};
+ghost use Rattle.turn_laws.specs.txn_core.Steps.{MayTurn, HasTurned, TurnsDevice, AfterTurn};
+ghost use Rattle.turn_laws.specs.txn_core.Views.{present_content};
 ghost use Rattle.state_store.specs.Turns.{AgreeWhereKnown, TurnsVolume};
 ghost use Rattle.state_store.specs.Volumes.{HoldsState};
 
 use flush_policy::StoreStep;
 use host_base::Failed;
-use map_change::LiveMap;
+use same_names::{LiveMap, Upcase};
 use sector_device::Device;
 use state_blocks::needed_is_all;
-use turn_laws::steps_spare;
-use txn_core::Store;
-use upcase_order::Upcase;
+use turn_laws::{Store, steps_spare};
 
 /// Takes a step of a store that shows a state with this map and this table of upper-case units, as
 /// [`flush_policy::next_step`] chooses it by the store's facts: a page of the log is sealed or

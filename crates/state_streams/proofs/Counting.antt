@@ -3,12 +3,12 @@ use Rattle.std.proofs.Common.{◌≡◌, ℕ, zero, suc, ◌+◌, ◌<◌, ◌�
 use Rattle.std.specs.Prelude.{is_some}
 use Rattle.std.specs.List.{list_all, list_any}
 use Rattle.std.proofs.lemmas.Bool.{cases_lt, and_parts, or_parts, leb-true, le-leb, lt-leb, lt-ltb, le-ltb}
-use Rattle.record_model.specs.declared.runs.Run.{Run}
-use Rattle.state_model.specs.Loads.{total_clusters}
-use Rattle.volume_model.specs.Owners.{covers_from, covers, uses}
-use Rattle.volume_model.specs.Sizes.{lies_below, lies_inside, is_hole}
-use Rattle.stream_laws.specs.Places.{AreOnce}
-use Rattle.stream_runs.proofs.Merging.{uses-cons}
+use Rattle.plan_growth.specs.record_model.declared.runs.Run.{Run}
+use Rattle.plan_growth.specs.state_model.Loads.{total_clusters}
+use Rattle.plan_growth.specs.volume_model.Owners.{covers_from, covers, uses}
+use Rattle.plan_growth.specs.volume_model.Sizes.{lies_below, lies_inside, is_hole}
+use Rattle.plan_growth.specs.stream_laws.Places.{AreOnce}
+use Rattle.plan_growth.proofs.stream_runs.Merging.{uses-cons}
 
 -- the sum below a bound
 abbrev sum : (ℕ → ℕ) → ℕ → ℕ

@@ -6,23 +6,23 @@ use Rattle.std.proofs.lemmas.Bool.{cases_Bool}
 use Rattle.std.proofs.lemmas.List.{length-append}
 use Rattle.std.proofs.lemmas.List.Concat.{length-flat_map}
 use Rattle.std.proofs.lemmas.List.Sums.{sum_by-cons}
-use Rattle.record_model.specs.declared.attribute.Attr.{Attr}
-use Rattle.record_model.specs.declared.attribute.OwnForm.{OwnForm}
-use Rattle.record_model.specs.declared.attribute.OwnForm.TheVariants.{Resident, Mapped}
-use Rattle.record_model.specs.declared.runs.PairsFault.{PairsFault}
-use Rattle.record_model.specs.declared.runs.Run.{Run}
-use Rattle.record_model.specs.Attributes.{spelling}
-use Rattle.record_model.specs.Pairs.{runs_of, SpellsRuns}
-use Rattle.record_model.specs.Records.{Record, spelled_bytes, used_of}
-use Rattle.record_model.proofs.PairsBack.{read_spelled}
-use Rattle.record_model.proofs.UnitBytes.{length-filled}
-use Rattle.record_writer.specs.Edits.{form_length}
-use Rattle.record_writer.specs.Normal.{normal_form, normal}
-use Rattle.record_writer.proofs.Measures.{length-spelling}
-use Rattle.state_model.specs.declared.stream.Extents.{Extents}
-use Rattle.state_model.specs.declared.stream.Stream.TheVariants.{Placed}
-use Rattle.state_model.specs.Streams.{is_attribute_of, attributes_of, runs_or, form_runs, attribute_runs, stream_of}
-use Rattle.stream_laws.proofs.Sharing.{attributes_sum}
+use Rattle.plan_growth.specs.record_model.declared.attribute.Attr.{Attr}
+use Rattle.plan_growth.specs.record_model.declared.attribute.OwnForm.{OwnForm}
+use Rattle.plan_growth.specs.record_model.declared.attribute.OwnForm.TheVariants.{Resident, Mapped}
+use Rattle.plan_growth.specs.record_model.declared.runs.PairsFault.{PairsFault}
+use Rattle.plan_growth.specs.record_model.declared.runs.Run.{Run}
+use Rattle.plan_growth.specs.record_model.Attributes.{spelling}
+use Rattle.plan_growth.specs.record_model.Pairs.{runs_of, SpellsRuns}
+use Rattle.plan_growth.specs.record_model.Records.{Record, spelled_bytes, used_of}
+use Rattle.plan_growth.proofs.record_model.PairsBack.{read_spelled}
+use Rattle.plan_growth.proofs.record_model.UnitBytes.{length-filled}
+use Rattle.plan_growth.specs.record_writer.Edits.{form_length}
+use Rattle.plan_growth.specs.record_writer.Normal.{normal_form, normal}
+use Rattle.plan_growth.proofs.record_writer.Measures.{length-spelling}
+use Rattle.plan_growth.specs.state_model.declared.stream.Extents.{Extents}
+use Rattle.plan_growth.specs.state_model.declared.stream.Stream.TheVariants.{Placed}
+use Rattle.plan_growth.specs.state_model.Streams.{is_attribute_of, attributes_of, runs_or, form_runs, attribute_runs, stream_of}
+use Rattle.plan_growth.proofs.stream_laws.Sharing.{attributes_sum}
 use Rattle.plan_growth.proofs.Placed.{runs_of_attributes}
 
 -- each run takes two bytes at least

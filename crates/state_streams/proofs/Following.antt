@@ -2,17 +2,17 @@
 use Rattle.std.proofs.Common.{◌≡◌, ℕ, ◌+◌, ◌≤◌, true, ◌&&◌, eqb, ltb, List, [], ◌∷◌, ◌++◌, Result, Ok, Err, refl, subst, arith}
 use Rattle.std.specs.List.{flat_map}
 use Rattle.std.proofs.lemmas.Bool.{and_parts, eqb-true}
-use Rattle.record_model.specs.declared.attribute.Attr.{Attr}
-use Rattle.record_model.specs.declared.attribute.OwnForm.{OwnForm}
-use Rattle.record_model.specs.declared.attribute.OwnForm.TheVariants.{Resident, Mapped}
-use Rattle.record_model.specs.declared.runs.PairsFault.{PairsFault}
-use Rattle.record_model.specs.declared.runs.Run.{Run}
-use Rattle.record_model.specs.Pairs.{cluster_limit, runs_of, Follow, HasSpelling}
-use Rattle.record_model.proofs.PairsBack.{read_spelled}
-use Rattle.state_model.specs.Loads.{total_clusters}
-use Rattle.state_model.specs.Streams.{first_vcn, form_first, form_runs, runs_or, attribute_runs}
-use Rattle.stream_runs.proofs.Merging.{total-append}
-use Rattle.volume_model.specs.Sizes.{follow, are_joined}
+use Rattle.plan_growth.specs.record_model.declared.attribute.Attr.{Attr}
+use Rattle.plan_growth.specs.record_model.declared.attribute.OwnForm.{OwnForm}
+use Rattle.plan_growth.specs.record_model.declared.attribute.OwnForm.TheVariants.{Resident, Mapped}
+use Rattle.plan_growth.specs.record_model.declared.runs.PairsFault.{PairsFault}
+use Rattle.plan_growth.specs.record_model.declared.runs.Run.{Run}
+use Rattle.plan_growth.specs.record_model.Pairs.{cluster_limit, runs_of, Follow, HasSpelling}
+use Rattle.plan_growth.proofs.record_model.PairsBack.{read_spelled}
+use Rattle.plan_growth.specs.state_model.Loads.{total_clusters}
+use Rattle.plan_growth.specs.state_model.Streams.{first_vcn, form_first, form_runs, runs_or, attribute_runs}
+use Rattle.plan_growth.proofs.stream_runs.Merging.{total-append}
+use Rattle.plan_growth.specs.volume_model.Sizes.{follow, are_joined}
 
 -- runs that follow from one VCN on, behind so many clusters, follow from 0 on behind as many more
 moved_on : (first n : ℕ) (runs : List Run) → Follow first n runs → first + n + total_clusters runs ≤ cluster_limit → Follow 0 (first + n) runs

@@ -5,24 +5,24 @@ use Rattle.std.specs.List.{list_all, flat_map}
 use Rattle.std.proofs.lemmas.Bool.{and_parts, eqb-true, leb-true}
 use Rattle.std.proofs.lemmas.List.Elements.{All-nil, All-cons}
 use Rattle.disk_model.specs.Content.{Content}
-use Rattle.record_model.specs.declared.attribute.Attr.{Attr}
-use Rattle.record_model.specs.declared.runs.Run.{Run}
-use Rattle.record_model.specs.Pairs.{cluster_limit, Follow, HasSpelling}
-use Rattle.record_model.specs.Records.{Record}
-use Rattle.state_model.specs.declared.geometry.Geometry.{Geometry}
-use Rattle.state_model.specs.declared.stream.Extents.{Extents}
-use Rattle.state_model.specs.declared.stream.Stream.TheVariants.{Placed}
-use Rattle.state_model.specs.Loads.{total_clusters}
-use Rattle.state_model.specs.Streams.{attributes_of, attribute_runs, stream_of}
-use Rattle.volume_model.specs.Volumes.{Volume, file_stream}
-use Rattle.volume_model.specs.Sizes.{are_joined, has_hole, lies_below, lies_inside, has_sizes, fits_volume, keeps_streams}
-use Rattle.stream_laws.specs.Places.{AreOnce}
-use Rattle.stream_laws.specs.Sharing.{StreamKey, stream_at, runs_in}
-use Rattle.stream_laws.proofs.Sharing.{stream_once}
-use Rattle.stream_runs.specs.Runs.{last_cluster, IsNear}
-use Rattle.plan_owners.specs.States.{Stands}
-use Rattle.plan_owners.proofs.Outside.{once}
-use Rattle.plan_owners.proofs.Standing.{streams_at}
+use Rattle.plan_growth.specs.record_model.declared.attribute.Attr.{Attr}
+use Rattle.plan_growth.specs.record_model.declared.runs.Run.{Run}
+use Rattle.plan_growth.specs.record_model.Pairs.{cluster_limit, Follow, HasSpelling}
+use Rattle.plan_growth.specs.record_model.Records.{Record}
+use Rattle.plan_growth.specs.state_model.declared.geometry.Geometry.{Geometry}
+use Rattle.plan_growth.specs.state_model.declared.stream.Extents.{Extents}
+use Rattle.plan_growth.specs.state_model.declared.stream.Stream.TheVariants.{Placed}
+use Rattle.plan_growth.specs.state_model.Loads.{total_clusters}
+use Rattle.plan_growth.specs.state_model.Streams.{attributes_of, attribute_runs, stream_of}
+use Rattle.plan_growth.specs.volume_model.Volumes.{Volume, file_stream}
+use Rattle.plan_growth.specs.volume_model.Sizes.{are_joined, has_hole, lies_below, lies_inside, has_sizes, fits_volume, keeps_streams}
+use Rattle.plan_growth.specs.stream_laws.Places.{AreOnce}
+use Rattle.plan_growth.specs.stream_laws.Sharing.{StreamKey, stream_at, runs_in}
+use Rattle.plan_growth.proofs.stream_laws.Sharing.{stream_once}
+use Rattle.plan_growth.specs.stream_runs.Runs.{last_cluster, IsNear}
+use Rattle.plan_growth.specs.plan_owners.States.{Stands}
+use Rattle.plan_growth.proofs.plan_owners.Outside.{once}
+use Rattle.plan_growth.proofs.plan_owners.Standing.{streams_at}
 use Rattle.plan_growth.proofs.Placed.{some_attributes, runs_of_attributes, stream_rule}
 use Rattle.state_streams.specs.Streams.{IsPlacedIn, HasLawfulSizes}
 use Rattle.state_streams.proofs.Following.{joined_follow}

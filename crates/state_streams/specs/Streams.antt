@@ -2,19 +2,19 @@
 use Rattle.std.specs.Prelude.{◌≡◌, ◌≢◌, ℕ, ◌*◌, ◌<◌, ◌≤◌, false, true, All, IfSome, List, length, map, Some}
 use Rattle.std.specs.List.{list_all}
 use Rattle.disk_model.specs.Content.{Content}
-use Rattle.record_model.specs.Constants.{file_name}
-use Rattle.record_model.specs.Pairs.{cluster_limit, HasSpelling}
-use Rattle.record_model.specs.Records.{Record, used_of}
-use Rattle.record_writer.specs.Normal.{normal}
-use Rattle.state_model.specs.declared.geometry.Geometry.{Geometry}
-use Rattle.state_model.specs.declared.stream.Extents.{Extents}
-use Rattle.state_model.specs.declared.stream.Stream.TheVariants.{Placed}
-use Rattle.state_model.specs.Loads.{total_clusters}
-use Rattle.state_model.specs.Streams.{stream_of}
-use Rattle.volume_model.specs.Sizes.{has_hole, lies_inside}
-use Rattle.volume_model.specs.Volumes.{Volume, file_in}
-use Rattle.stream_runs.specs.Runs.{last_cluster, IsNear}
-use Rattle.plan_owners.specs.States.{Stands}
+use Rattle.plan_growth.specs.record_model.Constants.{file_name}
+use Rattle.plan_growth.specs.record_model.Pairs.{cluster_limit, HasSpelling}
+use Rattle.plan_growth.specs.record_model.Records.{Record, used_of}
+use Rattle.plan_growth.specs.record_writer.Normal.{normal}
+use Rattle.plan_growth.specs.state_model.declared.geometry.Geometry.{Geometry}
+use Rattle.plan_growth.specs.state_model.declared.stream.Extents.{Extents}
+use Rattle.plan_growth.specs.state_model.declared.stream.Stream.TheVariants.{Placed}
+use Rattle.plan_growth.specs.state_model.Loads.{total_clusters}
+use Rattle.plan_growth.specs.state_model.Streams.{stream_of}
+use Rattle.plan_growth.specs.volume_model.Sizes.{has_hole, lies_inside}
+use Rattle.plan_growth.specs.volume_model.Volumes.{Volume, file_in}
+use Rattle.plan_growth.specs.stream_runs.Runs.{last_cluster, IsNear}
+use Rattle.plan_growth.specs.plan_owners.States.{Stands}
 
 -- a stream of a file of the volume lies in these clusters; it is no name
 pub record IsPlacedIn (v : Volume) (n kind : ℕ) (name : List ℕ) (e : Extents) : Type 0 where

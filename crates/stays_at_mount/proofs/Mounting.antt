@@ -14,15 +14,15 @@ use Rattle.log_page.specs.declared.places.LogPlace.{LogPlace}
 use Rattle.log_page.specs.Restarts.{restart_spelling}
 use Rattle.log_page.proofs.Spelled.{length-restart_spelling}
 use Rattle.log_area.specs.Areas.{LogAreaOf, new_area, restart_sector, page_to_send}
-use Rattle.log_recovery.specs.declared.found.RecoveredBlock.{RecoveredBlock}
-use Rattle.log_recovery.specs.LogStates.{LogState}
+use Rattle.txn_mount.specs.log_recovery.declared.found.RecoveredBlock.{RecoveredBlock}
+use Rattle.txn_mount.specs.log_recovery.LogStates.{LogState}
 use Rattle.store_model.specs.Geometry.{SectorBytes}
 use Rattle.store_model.specs.Volumes.{is_known}
-use Rattle.txn_model.specs.Values.{is_own}
-use Rattle.txn_laws.proofs.Telling.{known_before_write, known_before_sync}
-use Rattle.area_laws.specs.Laws.{SendsRestart}
-use Rattle.txn_laws.specs.Laws.{first_lsn}
-use Rattle.device_blocks.specs.declared.word.CheckWord.TheVariants.{Unread}
+use Rattle.txn_mount.specs.txn_model.Values.{is_own}
+use Rattle.txn_mount.proofs.txn_laws.Telling.{known_before_write, known_before_sync}
+use Rattle.txn_mount.specs.area_laws.Laws.{SendsRestart}
+use Rattle.txn_mount.specs.txn_laws.Laws.{first_lsn}
+use Rattle.txn_mount.specs.device_blocks.declared.word.CheckWord.TheVariants.{Unread}
 use Rattle.txn_mount.specs.Calls.{PutsBack, PutsAll, SyncsDevice, NamesNow, MountsBy}
 use Rattle.txn_mount.specs.Contents.{ReadsLog, ReadsWell}
 use Rattle.txn_mount.specs.Images.{AreItems}

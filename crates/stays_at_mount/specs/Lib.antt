@@ -1,1 +1,2 @@
+pub use Rattle.txn_mount.specs as txn_mount
 pub mod Mounts

@@ -4,8 +4,8 @@ use Rattle.host_base.specs.declared.outside.Failed.{Failed}
 use Rattle.disk_model.specs.declared.block.Block.{Block}
 use Rattle.sector_device.specs.Moments.{Changes}
 use Rattle.log_page.specs.declared.places.LogPlace.{LogPlace}
-use Rattle.log_recovery.specs.declared.found.RecoveredBlock.{RecoveredBlock}
-use Rattle.log_recovery.specs.LogStates.{LogState}
+use Rattle.txn_mount.specs.log_recovery.declared.found.RecoveredBlock.{RecoveredBlock}
+use Rattle.txn_mount.specs.log_recovery.LogStates.{LogState}
 use Rattle.store_model.specs.Geometry.{SectorBytes}
 use Rattle.txn_mount.specs.Laws.{MayMount, MountsAs}
 use Rattle.found_stays.specs.Found.{AreOffLog, StaysOver}

@@ -6,11 +6,11 @@ use Rattle.std.proofs.lemmas.Bool.{and_parts, eqb-true, cases_lt}
 use Rattle.std.proofs.lemmas.Bool.Decides.{nat_tests}
 use Rattle.std.proofs.lemmas.List.Sums.{fails_before_first, position_or_len_is}
 use Rattle.std.proofs.lemmas.List.FromFn.{get_or-map-range_with_len}
-use Rattle.host_base.specs.Answers.{Explains}
-use Rattle.utf16_name.specs.declared.name.NameFault.{NameFault}
-use Rattle.utf16_name.specs.declared.name.NameFault.TheVariants.{Length as too_long}
-use Rattle.utf16_name.specs.Names.{is_bad_unit, fault_of, name_fault, ok_unless, name_of}
-use Rattle.disk_model.specs.Numbers.{field}
+use Rattle.record_model.specs.host_base.Answers.{Explains}
+use Rattle.record_model.specs.utf16_name.declared.name.NameFault.{NameFault}
+use Rattle.record_model.specs.utf16_name.declared.name.NameFault.TheVariants.{Length as too_long}
+use Rattle.record_model.specs.utf16_name.Names.{is_bad_unit, fault_of, name_fault, ok_unless, name_of}
+use Rattle.record_model.specs.disk_model.Numbers.{field}
 use Rattle.record_model.specs.declared.values.FileNameValue.{FileNameValue}
 use Rattle.record_model.specs.declared.values.ValueFault.{ValueFault}
 use Rattle.record_model.specs.declared.values.ValueFault.TheVariants.{Length, Shape, Memory}

@@ -1,9 +1,9 @@
 -- Bytes and units that are put into a list.
 use Rattle.std.proofs.Common.{◌≡◌, ℕ, zero, suc, ◌+◌, ◌*◌, ◌%◌, ◌<◌, List, [], ◌∷◌, ◌++◌, length, take, set, slice_index, refl, sym, ap, ◌∙◌, arith}
 use Rattle.std.proofs.lemmas.List.{take_more, append-nil, length-take-le, append_assoc}
-use Rattle.disk_model.specs.Numbers.{spell}
-use Rattle.disk_model.specs.Bytes.{written}
-use Rattle.disk_model.proofs.Puts.{written_behind_written}
+use Rattle.record_model.specs.disk_model.Numbers.{spell}
+use Rattle.record_model.specs.disk_model.Bytes.{written}
+use Rattle.record_model.proofs.disk_model.Puts.{written_behind_written}
 use Rattle.record_model.specs.Attributes.{unit_bytes}
 use Rattle.record_model.proofs.UnitBytes.{length-unit_bytes}
 

@@ -1,7 +1,7 @@
 -- The name in a file-name value.
 use Rattle.std.specs.Prelude.{List, ℕ, Result, Ok, Err}
-use Rattle.utf16_name.specs.declared.name.NameFault.{NameFault}
-use Rattle.utf16_name.specs.Names.{name_of}
+use Rattle.record_model.specs.utf16_name.declared.name.NameFault.{NameFault}
+use Rattle.record_model.specs.utf16_name.Names.{name_of}
 use Rattle.record_model.specs.declared.values.ValueFault.{ValueFault}
 use Rattle.record_model.specs.declared.values.ValueFault.TheVariants.{Shape}
 

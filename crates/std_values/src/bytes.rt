@@ -1,9 +1,9 @@
 ghost use Rattle.std.specs.Prelude.{◌≡◌, ◌+◌, ◌*◌, ◌<◌, ◌≤◌, length};
-ghost use Rattle.disk_model.specs.Numbers.{spell};
-ghost use Rattle.disk_model.specs.Bytes.{written};
+ghost use Rattle.record_model.specs.disk_model.Numbers.{spell};
+ghost use Rattle.record_model.specs.disk_model.Bytes.{written};
 ghost use Rattle.record_model.specs.Attributes.{unit_bytes};
 
-use disk_model::put_u16;
+use record_model::put_u16;
 
 /// Puts a byte at this place.
 pub fn put_byte(bytes: &mut [u8], at: usize, value: u8)

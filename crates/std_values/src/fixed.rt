@@ -2,8 +2,10 @@ ghost use Rattle.std.specs.Prelude.{◌≡◌, ℕ, List, Result, ◌≤◌, len
 ghost use Rattle.record_model.specs.declared.values.ValueFault.{ValueFault};
 
 use crate::bytes::put_byte;
-use disk_model::{put_u16, put_u32, put_u64, u8_at, u16_at, u32_at, u64_at};
-use record_model::{JournalMax, StdInfo, ValueFault, VolumeInfo};
+use record_model::{
+    JournalMax, StdInfo, ValueFault, VolumeInfo, put_u16, put_u32, put_u64, u8_at, u16_at, u32_at,
+    u64_at,
+};
 
 /// A value whose fields stand at fixed places.
 pub trait FixedValue: Sized {

@@ -1,17 +1,17 @@
 ghost use Rattle.std.specs.Prelude.{◌≡◌, true, ℕ, List, Result, ◌+◌, ◌*◌, ◌<◌, ◌≤◌, ◌^◌, length, not, is_ok};
-ghost use Rattle.host_base.specs.Answers.{Gives};
-ghost use Rattle.utf16_name.specs.Names.{is_bad_unit, name_of};
+ghost use Rattle.record_model.specs.host_base.Answers.{Gives};
+ghost use Rattle.record_model.specs.utf16_name.Names.{is_bad_unit, name_of};
 ghost use Rattle.record_model.specs.declared.values.ValueFault.{ValueFault};
 ghost use Rattle.record_model.specs.Values.{units_of, has_name_length, is_file_name};
 ghost use Rattle.record_model.specs.StdValues.{value_cause, name_head_over};
 ghost use Rattle.std_values.specs.Naming.{lawful_name};
 
 use crate::bytes::{put_byte, put_units};
-use disk_model::{put_u32, put_u64, u8_at, u16_at, u32_at, u64_at};
-use host_base::FileRef;
-use record_model::{FileNameValue, ValueFault, units_at};
+use record_model::{
+    FileNameValue, FileRef, Name, NameFault, ValueFault, check, put_u32, put_u64, u8_at, u16_at,
+    u32_at, u64_at, units_at,
+};
 use std::alloc::Global;
-use utf16_name::{Name, NameFault, check};
 
 /// The last namespace: Win32 and DOS.
 const LAST_SPACE: u8 = 3;

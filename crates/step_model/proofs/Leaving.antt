@@ -4,21 +4,21 @@ use Rattle.std.specs.Prelude.{◌==◌, nat_lt}
 use Rattle.std.specs.List.{AllByRecursion}
 use Rattle.std.proofs.lemmas.Bool.{and_parts, and_from, lt-ltb}
 use Rattle.std.proofs.lemmas.Bool.Decides.{nat_tests}
-use Rattle.disk_model.specs.declared.block.Block.{Block}
-use Rattle.disk_model.specs.declared.block.BlockKind.{BlockKind}
-use Rattle.disk_model.specs.declared.block.BlockKind.TheVariants.{Plain, FileRec, Index}
-use Rattle.disk_model.specs.Sectors.{sectors, same_kind, same_block, overlap}
-use Rattle.disk_model.specs.Content.{Content, HasSizes}
-use Rattle.bit_set.specs.Bits.{bit}
-use Rattle.state_model.specs.declared.geometry.Geometry.{Geometry}
-use Rattle.volume_model.specs.Volumes.{Volume, cluster_bits}
-use Rattle.volume_model.specs.Owners.{uses}
-use Rattle.stream_laws.specs.Owners.{stream_kind}
-use Rattle.stream_laws.specs.Sharing.{StreamKey, stream_at, runs_in}
-use Rattle.plan_owners.specs.States.{Stands}
-use Rattle.plan_owners.proofs.ByKind.{marked}
-use Rattle.plan_bodies.specs.Bodies.{NewBody, content_with, AreBodies, body_in, body_or}
-use Rattle.plan_bodies.proofs.Putting.{body_put}
+use Rattle.record_writer.specs.disk_model.declared.block.Block.{Block}
+use Rattle.record_writer.specs.disk_model.declared.block.BlockKind.{BlockKind}
+use Rattle.record_writer.specs.disk_model.declared.block.BlockKind.TheVariants.{Plain, FileRec, Index}
+use Rattle.record_writer.specs.disk_model.Sectors.{sectors, same_kind, same_block, overlap}
+use Rattle.record_writer.specs.disk_model.Content.{Content, HasSizes}
+use Rattle.plan_model.specs.bit_set.Bits.{bit}
+use Rattle.plan_model.specs.state_model.declared.geometry.Geometry.{Geometry}
+use Rattle.plan_model.specs.volume_model.Volumes.{Volume, cluster_bits}
+use Rattle.plan_model.specs.volume_model.Owners.{uses}
+use Rattle.plan_model.specs.stream_laws.Owners.{stream_kind}
+use Rattle.plan_model.specs.stream_laws.Sharing.{StreamKey, stream_at, runs_in}
+use Rattle.plan_model.specs.plan_owners.States.{Stands}
+use Rattle.plan_model.proofs.plan_owners.ByKind.{marked}
+use Rattle.plan_model.specs.plan_bodies.Bodies.{NewBody, content_with, AreBodies, body_in, body_or}
+use Rattle.plan_model.proofs.plan_bodies.Putting.{body_put}
 use Rattle.step_model.specs.Placing.{Growth}
 use Rattle.step_model.specs.Contents.{MayDiffer, IsLeft}
 use Rattle.step_model.specs.ContentLaws.{ContentsLeft}

@@ -2,24 +2,24 @@
 use Rattle.std.proofs.Common.{◌≡◌, ℕ, ◌+◌, Bool, true, false, cond, List, [], ◌∷◌, length, Option, Some, None, Result, Ok, Err, refl, ap, subst}
 use Rattle.std.specs.Prelude.{IsOkAnd, IsSomeAnd, ⊤}
 use Rattle.host_base.specs.Answers.{◌>>=◌, needs}
-use Rattle.file_tree.specs.declared.node.Node.{Node}
-use Rattle.file_tree.specs.declared.node.Kind.{Kind}
-use Rattle.file_tree.specs.declared.node.Kind.TheVariants as kind
-use Rattle.file_tree.specs.declared.node.Why.{Why}
-use Rattle.file_tree.specs.declared.node.Why.TheVariants as why
-use Rattle.file_tree.specs.declared.link.Link.{Link}
-use Rattle.file_tree.specs.declared.tree.Tree.{Tree}
-use Rattle.file_tree.specs.Trees.{node_at, is_directory, is_directory_kind}
-use Rattle.file_tree.specs.Walks.{root, child_in, has_bad_part}
-use Rattle.tree_model.specs.declared.script.Op.{Op}
-use Rattle.tree_model.specs.declared.script.Op.TheVariants as op
-use Rattle.tree_model.specs.declared.reply.Reply.{Reply}
-use Rattle.tree_model.specs.declared.reply.Reply.TheVariants as reply
-use Rattle.tree_model.specs.Walks.{some_or, entered, walk, reached, reached_directory, bad_name}
-use Rattle.tree_model.specs.Needs.{changes_file, needed, reserve}
-use Rattle.tree_model.specs.Refusals.{first_of, from_there, parent_path, new_name, where_so, fixed_names, fixed_bytes, fixed_list, fixed_read, read_rows, too_long, no_space, create_rows, change_rows}
-use Rattle.tree_model.specs.Effects.{numbers_to_take, least_ref}
-use Rattle.tree_model.specs.Steps.{HasStep, step_refusals, step_refusal, refused_by, Lists, stat_of, IsDone}
+use Rattle.plan_model.specs.file_tree.declared.node.Node.{Node}
+use Rattle.plan_model.specs.file_tree.declared.node.Kind.{Kind}
+use Rattle.plan_model.specs.file_tree.declared.node.Kind.TheVariants as kind
+use Rattle.plan_model.specs.file_tree.declared.node.Why.{Why}
+use Rattle.plan_model.specs.file_tree.declared.node.Why.TheVariants as why
+use Rattle.plan_model.specs.file_tree.declared.link.Link.{Link}
+use Rattle.plan_model.specs.file_tree.declared.tree.Tree.{Tree}
+use Rattle.plan_model.specs.file_tree.Trees.{node_at, is_directory, is_directory_kind}
+use Rattle.plan_model.specs.file_tree.Walks.{root, child_in, has_bad_part}
+use Rattle.run_model.specs.tree_model.declared.script.Op.{Op}
+use Rattle.run_model.specs.tree_model.declared.script.Op.TheVariants as op
+use Rattle.run_model.specs.tree_model.declared.reply.Reply.{Reply}
+use Rattle.run_model.specs.tree_model.declared.reply.Reply.TheVariants as reply
+use Rattle.run_model.specs.tree_model.Walks.{some_or, entered, walk, reached, reached_directory, bad_name}
+use Rattle.run_model.specs.tree_model.Needs.{changes_file, needed, reserve}
+use Rattle.run_model.specs.tree_model.Refusals.{first_of, from_there, parent_path, new_name, where_so, fixed_names, fixed_bytes, fixed_list, fixed_read, read_rows, too_long, no_space, create_rows, change_rows}
+use Rattle.run_model.specs.tree_model.Effects.{numbers_to_take, least_ref}
+use Rattle.run_model.specs.tree_model.Steps.{HasStep, step_refusals, step_refusal, refused_by, Lists, stat_of, IsDone}
 use Rattle.step_model.specs.StepLaws.{is_content_row}
 use Rattle.step_model.specs.Steps.{Done, Refused, answer_of, stat_answer, list_answer, read_answer, create_answer, write_answer, truncate_answer}
 

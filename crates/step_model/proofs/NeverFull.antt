@@ -8,27 +8,27 @@ use Rattle.std.proofs.lemmas.Bool.{and_parts}
 use Rattle.std.proofs.lemmas.Bool.Decides.{nat_tests}
 use Rattle.std.proofs.lemmas.List.Sums.{sum_by-cons}
 use Rattle.std.proofs.lemmas.List.Sorted.{sum_by-IsPermutation}
-use Rattle.disk_model.specs.Bytes.{zeros}
-use Rattle.record_model.specs.declared.attribute.OwnForm.{OwnForm}
-use Rattle.record_model.specs.declared.attribute.OwnForm.TheVariants.{Resident, Mapped}
-use Rattle.record_model.specs.declared.attribute.Attr.{Attr}
-use Rattle.record_model.specs.declared.attribute.Sizes.{Sizes}
-use Rattle.record_model.specs.declared.runs.Run.{Run}
-use Rattle.record_model.specs.Attributes.{is_compressed_or_sparse, spelling, held_bytes}
-use Rattle.record_model.specs.Constants.{standard_information, file_name, data_type}
-use Rattle.record_model.specs.Pairs.{pairs_of}
-use Rattle.record_model.specs.Records.{Record, spelled_bytes, used_of}
-use Rattle.record_model.proofs.UnitBytes.{length-zeros}
+use Rattle.record_writer.specs.disk_model.Bytes.{zeros}
+use Rattle.plan_model.specs.record_model.declared.attribute.OwnForm.{OwnForm}
+use Rattle.plan_model.specs.record_model.declared.attribute.OwnForm.TheVariants.{Resident, Mapped}
+use Rattle.plan_model.specs.record_model.declared.attribute.Attr.{Attr}
+use Rattle.plan_model.specs.record_model.declared.attribute.Sizes.{Sizes}
+use Rattle.plan_model.specs.record_model.declared.runs.Run.{Run}
+use Rattle.plan_model.specs.record_model.Attributes.{is_compressed_or_sparse, spelling, held_bytes}
+use Rattle.plan_model.specs.record_model.Constants.{standard_information, file_name, data_type}
+use Rattle.plan_model.specs.record_model.Pairs.{pairs_of}
+use Rattle.plan_model.specs.record_model.Records.{Record, spelled_bytes, used_of}
+use Rattle.plan_model.proofs.record_model.UnitBytes.{length-zeros}
 use Rattle.record_writer.specs.Edits.{whole_length}
 use Rattle.record_writer.proofs.Measures.{length-spelling, held_length}
-use Rattle.file_tree.specs.declared.node.Node.{Node}
-use Rattle.state_model.specs.Loads.{total_clusters}
-use Rattle.state_model.specs.Streams.{is_attribute_of, attributes_of, sorted_into, attribute_runs, form_stream, joined, stream_of}
-use Rattle.volume_model.specs.Volumes.{size_or}
-use Rattle.stream_laws.specs.Sharing.{runs_in}
-use Rattle.tree_model.specs.declared.script.Op.{Op}
-use Rattle.tree_model.specs.declared.script.Op.TheVariants as op
-use Rattle.tree_model.specs.Needs.{size_after, shrinks}
+use Rattle.plan_model.specs.file_tree.declared.node.Node.{Node}
+use Rattle.plan_model.specs.state_model.Loads.{total_clusters}
+use Rattle.plan_model.specs.state_model.Streams.{is_attribute_of, attributes_of, sorted_into, attribute_runs, form_stream, joined, stream_of}
+use Rattle.plan_model.specs.volume_model.Volumes.{size_or}
+use Rattle.plan_model.specs.stream_laws.Sharing.{runs_in}
+use Rattle.run_model.specs.tree_model.declared.script.Op.{Op}
+use Rattle.run_model.specs.tree_model.declared.script.Op.TheVariants as op
+use Rattle.run_model.specs.tree_model.Needs.{size_after, shrinks}
 use Rattle.step_model.specs.Placing.{Growth, runs_after}
 use Rattle.step_model.specs.Used.{most_used, is_replaced, attrs_with, used_after, new_attr, own_attr, first_or, value_attr, placed_attr, is_in_record, stays_in}
 use Rattle.step_model.specs.Streams.{Wanted, stream_in, as_value, placed_among, in_clusters, comes, wanted_data, is_value_cut, data_comes, data_of}

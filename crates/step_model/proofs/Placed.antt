@@ -5,16 +5,16 @@ use Rattle.std.specs.List.{AllByRecursion}
 use Rattle.std.proofs.lemmas.Bool.{cases_lt}
 use Rattle.std.proofs.lemmas.Bool.Decides.{nat_tests}
 use Rattle.std.proofs.lemmas.List.Sums.{sum_by-cons}
-use Rattle.record_model.specs.declared.runs.Run.{Run}
-use Rattle.bit_set.specs.Bits.{bit, IsClearRun}
+use Rattle.plan_model.specs.record_model.declared.runs.Run.{Run}
+use Rattle.plan_model.specs.bit_set.Bits.{bit, IsClearRun}
 use Rattle.space_model.specs.Choosing.{chosen, with_run, with_runs, with_clusters}
 use Rattle.space_model.specs.Laws.{clusters_of, AreFree, IsFree}
 use Rattle.space_model.proofs.Lawful.{chosen_are_free}
 use Rattle.space_model.proofs.Fitting.{counted_after}
 use Rattle.space_model.proofs.Searching.{with_run-inside, with_run-others}
-use Rattle.volume_model.specs.Owners.{uses, covers, covers_from}
-use Rattle.stream_laws.proofs.Placing.{uses-cons, uses-append}
-use Rattle.stream_laws.proofs.Sharing.{uses-none}
+use Rattle.plan_model.specs.volume_model.Owners.{uses, covers, covers_from}
+use Rattle.plan_model.proofs.stream_laws.Placing.{uses-cons, uses-append}
+use Rattle.plan_model.proofs.stream_laws.Sharing.{uses-none}
 use Rattle.stream_runs.specs.Runs.{last_cluster}
 use Rattle.step_model.specs.Placing.{Growth, more_of, AllPlaced, taken_runs, wanted_by, PlacedOnce}
 

@@ -1,23 +1,23 @@
 -- The streams of a plan take the clusters that are chosen for them.
 use Rattle.std.proofs.Common.{◌≡◌, ℕ, Bool, true, false, cond, List, [], ◌∷◌, ◌++◌, Option, Some, None, Result, Ok, Err, refl, sym, subst}
 use Rattle.std.specs.Prelude.{◌==◌, nat_lt}
-use Rattle.disk_model.specs.Content.{Content}
-use Rattle.record_model.specs.declared.attribute.Attr.{Attr}
-use Rattle.record_model.specs.declared.runs.Run.{Run}
-use Rattle.record_model.specs.Records.{Record}
-use Rattle.file_tree.specs.declared.node.Node.{Node}
-use Rattle.file_tree.specs.declared.journal.Journal.{Journal}
-use Rattle.index_model.specs.Trees.{Tree, levels}
+use Rattle.record_writer.specs.disk_model.Content.{Content}
+use Rattle.plan_model.specs.record_model.declared.attribute.Attr.{Attr}
+use Rattle.plan_model.specs.record_model.declared.runs.Run.{Run}
+use Rattle.plan_model.specs.record_model.Records.{Record}
+use Rattle.plan_model.specs.file_tree.declared.node.Node.{Node}
+use Rattle.plan_model.specs.file_tree.declared.journal.Journal.{Journal}
+use Rattle.plan_model.specs.index_model.Trees.{Tree, levels}
 use Rattle.space_model.specs.Choosing.{chosen, chosen_anywhere, with_runs, with_clusters}
-use Rattle.volume_model.specs.Volumes.{Volume, file_in, table_file, cluster_bits, upper_of}
-use Rattle.volume_state.specs.Trees.{tree_of}
-use Rattle.tree_laws.specs.Parts.{journal_number}
-use Rattle.tree_model.specs.declared.script.Op.{Op}
-use Rattle.tree_model.specs.declared.script.Op.TheVariants as op
-use Rattle.tree_model.specs.declared.reply.Reply.{Reply}
-use Rattle.tree_model.specs.Walks.{reached, reached_directory}
-use Rattle.tree_model.specs.Needs.{changes_file}
-use Rattle.tree_model.specs.Refusals.{parent_path, new_name}
+use Rattle.plan_model.specs.volume_model.Volumes.{Volume, file_in, table_file, cluster_bits, upper_of}
+use Rattle.plan_model.specs.volume_state.Trees.{tree_of}
+use Rattle.plan_model.specs.tree_laws.Parts.{journal_number}
+use Rattle.run_model.specs.tree_model.declared.script.Op.{Op}
+use Rattle.run_model.specs.tree_model.declared.script.Op.TheVariants as op
+use Rattle.run_model.specs.tree_model.declared.reply.Reply.{Reply}
+use Rattle.run_model.specs.tree_model.Walks.{reached, reached_directory}
+use Rattle.run_model.specs.tree_model.Needs.{changes_file}
+use Rattle.run_model.specs.tree_model.Refusals.{parent_path, new_name}
 use Rattle.stream_runs.specs.Runs.{last_cluster}
 use Rattle.step_model.specs.Placing.{Growth, more_of, AllPlaced, taken_runs}
 use Rattle.step_model.specs.Used.{used_after, value_attr, stays_in}

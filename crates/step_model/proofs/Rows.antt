@@ -1,14 +1,14 @@
 -- The rows of the content stand behind those of the tree.
 use Rattle.std.proofs.Common.{◌≡◌, ◌⊎◌, inl, inr, ℕ, Bool, true, false, cond, List, [], ◌∷◌, ◌++◌, Option, Some, None, Result, Ok, Err, refl, sym, ap, ◌∙◌}
-use Rattle.file_tree.specs.declared.node.Node.{Node}
-use Rattle.file_tree.specs.declared.tree.Tree.{Tree}
-use Rattle.tree_model.specs.declared.script.Op.{Op}
-use Rattle.tree_model.specs.declared.script.Op.TheVariants as op
-use Rattle.tree_model.specs.declared.reply.Reply.{Reply}
-use Rattle.tree_model.specs.Walks.{reached, reached_directory}
-use Rattle.tree_model.specs.Needs.{changes_file}
-use Rattle.tree_model.specs.Refusals.{first_of, from_there, parent_path, new_name, create_rows, change_rows}
-use Rattle.tree_model.specs.Steps.{step_refusals, step_refusal}
+use Rattle.plan_model.specs.file_tree.declared.node.Node.{Node}
+use Rattle.plan_model.specs.file_tree.declared.tree.Tree.{Tree}
+use Rattle.run_model.specs.tree_model.declared.script.Op.{Op}
+use Rattle.run_model.specs.tree_model.declared.script.Op.TheVariants as op
+use Rattle.run_model.specs.tree_model.declared.reply.Reply.{Reply}
+use Rattle.run_model.specs.tree_model.Walks.{reached, reached_directory}
+use Rattle.run_model.specs.tree_model.Needs.{changes_file}
+use Rattle.run_model.specs.tree_model.Refusals.{first_of, from_there, parent_path, new_name, create_rows, change_rows}
+use Rattle.run_model.specs.tree_model.Steps.{step_refusals, step_refusal}
 
 -- ---- lists of rows
 

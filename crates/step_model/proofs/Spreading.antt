@@ -3,27 +3,27 @@ use Rattle.std.proofs.Common.{◌≡◌, inl, inr, ℕ, suc, ◌+◌, ◌-◌, �
 use Rattle.std.specs.Prelude.{reverse, nat_eq}
 use Rattle.std.proofs.lemmas.Bool.{cases_eq}
 use Rattle.std.proofs.lemmas.List.{reverse-append}
-use Rattle.disk_model.specs.Content.{Content, HasSizes}
-use Rattle.disk_model.specs.declared.block.Change.{Change}
-use Rattle.record_model.specs.declared.entry.Entry.{Entry as Raw}
-use Rattle.record_model.specs.Nodes.{node_used, node_room, last_entry}
-use Rattle.file_tree.specs.declared.link.Link.{Link}
-use Rattle.index_model.specs.declared.key.Key.{Key}
-use Rattle.index_model.specs.Trees.{Tree, Leaf, Down, Entry, DownEntry, walk, held, times, same, one_if, raws_of, Stands, levels}
-use Rattle.index_model.specs.Indexes.{Place, node_of_block, nodes_of}
-use Rattle.index_model.proofs.Marks.{same_not}
-use Rattle.index_plan.specs.declared.write.Write.{Write}
-use Rattle.index_plan.specs.Paths.{over, chosen, written_vcns}
-use Rattle.index_plan.specs.Growth.{fits_in}
-use Rattle.index_plan.specs.Room.{tight_count}
-use Rattle.index_plan.specs.Search.{put}
-use Rattle.index_plan.proofs.Standing.{same_self}
-use Rattle.block_view.specs.Changes.{content_after}
-use Rattle.index_change.specs.declared.plan.DirPlan.{DirPlan}
-use Rattle.index_change.specs.Changing.{IsLaidOut, uses, PutsNode, PutNodes}
-use Rattle.index_change.specs.Orders.{goes, link_of}
-use Rattle.index_change.specs.Plans.{root_room, seventeen, needs_level, NewIndex}
-use Rattle.index_change.proofs.Laid.{AreUsed, nodes_after}
+use Rattle.record_writer.specs.disk_model.Content.{Content, HasSizes}
+use Rattle.record_writer.specs.disk_model.declared.block.Change.{Change}
+use Rattle.plan_model.specs.record_model.declared.entry.Entry.{Entry as Raw}
+use Rattle.plan_model.specs.record_model.Nodes.{node_used, node_room, last_entry}
+use Rattle.plan_model.specs.file_tree.declared.link.Link.{Link}
+use Rattle.plan_model.specs.index_model.declared.key.Key.{Key}
+use Rattle.plan_model.specs.index_model.Trees.{Tree, Leaf, Down, Entry, DownEntry, walk, held, times, same, one_if, raws_of, Stands, levels}
+use Rattle.plan_model.specs.index_model.Indexes.{Place, node_of_block, nodes_of}
+use Rattle.plan_model.proofs.index_model.Marks.{same_not}
+use Rattle.plan_model.specs.index_plan.declared.write.Write.{Write}
+use Rattle.plan_model.specs.index_plan.Paths.{over, chosen, written_vcns}
+use Rattle.plan_model.specs.index_plan.Growth.{fits_in}
+use Rattle.plan_model.specs.index_plan.Room.{tight_count}
+use Rattle.plan_model.specs.index_plan.Search.{put}
+use Rattle.plan_model.proofs.index_plan.Standing.{same_self}
+use Rattle.plan_model.specs.block_view.Changes.{content_after}
+use Rattle.plan_model.specs.index_change.declared.plan.DirPlan.{DirPlan}
+use Rattle.plan_model.specs.index_change.Changing.{IsLaidOut, uses, PutsNode, PutNodes}
+use Rattle.plan_model.specs.index_change.Orders.{goes, link_of}
+use Rattle.plan_model.specs.index_change.Plans.{root_room, seventeen, needs_level, NewIndex}
+use Rattle.plan_model.proofs.index_change.Laid.{AreUsed, nodes_after}
 use Rattle.step_model.specs.Spreads.{blocks_in, FitsBlock, FitBlocks, way_of, RootMay, IsSpread}
 use Rattle.step_model.specs.SpreadLaws.{PlansSpread}
 

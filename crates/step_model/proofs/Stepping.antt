@@ -1,24 +1,24 @@
 -- What a step of a content keeps, what it shares with a step of the tree, and its turns.
 use Rattle.std.proofs.Common.{◌≡◌, ◌≢◌, inl, inr, ℕ, ◌+◌, Bool, true, false, cond, List, [], ◌∷◌, Option, Some, None, Result, Ok, Err, refl, sym, ap, ◌∙◌, subst}
 use Rattle.std.specs.Prelude.{MatchBool, nat_lt}
-use Rattle.disk_model.specs.Content.{Content}
-use Rattle.file_tree.specs.declared.node.Node.{Node}
-use Rattle.file_tree.specs.declared.node.Why.{Why}
-use Rattle.file_tree.specs.declared.node.Why.TheVariants as why
-use Rattle.file_tree.specs.declared.tree.Tree.{Tree}
-use Rattle.state_model.specs.declared.geometry.Geometry.{Geometry}
-use Rattle.state_model.specs.declared.geometry.MapRefusal.{MapRefusal}
-use Rattle.volume_model.specs.Volumes.{Volume, volume_of, upper_of}
-use Rattle.volume_state.specs.Trees.{tree_of, tree_with}
-use Rattle.plan_owners.specs.States.{Stands}
-use Rattle.tree_model.specs.declared.script.Op.{Op}
-use Rattle.tree_model.specs.declared.script.Op.TheVariants as op
-use Rattle.tree_model.specs.declared.reply.Reply.{Reply}
-use Rattle.tree_model.specs.declared.reply.Reply.TheVariants as reply
-use Rattle.tree_model.specs.Walks.{reached}
-use Rattle.tree_model.specs.Needs.{changes_file}
-use Rattle.tree_model.specs.Refusals.{first_of}
-use Rattle.tree_model.specs.Steps.{HasStep, step_refusal, IsDone, StepsBy, IsStep, is_given_up}
+use Rattle.record_writer.specs.disk_model.Content.{Content}
+use Rattle.plan_model.specs.file_tree.declared.node.Node.{Node}
+use Rattle.plan_model.specs.file_tree.declared.node.Why.{Why}
+use Rattle.plan_model.specs.file_tree.declared.node.Why.TheVariants as why
+use Rattle.plan_model.specs.file_tree.declared.tree.Tree.{Tree}
+use Rattle.plan_model.specs.state_model.declared.geometry.Geometry.{Geometry}
+use Rattle.plan_model.specs.state_model.declared.geometry.MapRefusal.{MapRefusal}
+use Rattle.plan_model.specs.volume_model.Volumes.{Volume, volume_of, upper_of}
+use Rattle.plan_model.specs.volume_state.Trees.{tree_of, tree_with}
+use Rattle.plan_model.specs.plan_owners.States.{Stands}
+use Rattle.run_model.specs.tree_model.declared.script.Op.{Op}
+use Rattle.run_model.specs.tree_model.declared.script.Op.TheVariants as op
+use Rattle.run_model.specs.tree_model.declared.reply.Reply.{Reply}
+use Rattle.run_model.specs.tree_model.declared.reply.Reply.TheVariants as reply
+use Rattle.run_model.specs.tree_model.Walks.{reached}
+use Rattle.run_model.specs.tree_model.Needs.{changes_file}
+use Rattle.run_model.specs.tree_model.Refusals.{first_of}
+use Rattle.run_model.specs.tree_model.Steps.{HasStep, step_refusal, IsDone, StepsBy, IsStep, is_given_up}
 use Rattle.run_model.specs.Runs.{RunStart, TakesStep, IsTreeTurn, own, next_in_tree}
 use Rattle.run_model.specs.declared.turn.Turn.{Turn}
 use Rattle.run_model.proofs.Segments.{segment_push, segment_join}

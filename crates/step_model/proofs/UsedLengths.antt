@@ -4,14 +4,14 @@ use Rattle.std.specs.Prelude.{IfSome, unwrap_or}
 use Rattle.std.specs.List.{AllByRecursion}
 use Rattle.std.proofs.lemmas.Bool.{lt-ltb, le-leb}
 use Rattle.std.proofs.lemmas.Int.{ints}
-use Rattle.disk_model.specs.Bytes.{up8}
-use Rattle.record_model.specs.declared.attribute.OwnForm.TheVariants.{Resident, Mapped}
-use Rattle.record_model.specs.declared.attribute.Attr.{Attr}
-use Rattle.record_model.specs.declared.attribute.Sizes.{Sizes}
-use Rattle.record_model.specs.declared.runs.Run.{Run}
-use Rattle.record_model.specs.Attributes.{spelling, held_bytes}
-use Rattle.record_model.specs.Pairs.{fits_bytes, signed_bytes, delta_bytes, pair_of, pairs_from, pairs_of}
-use Rattle.record_model.proofs.PairsSigned.{length-signed_bytes, signed_width-least}
+use Rattle.record_writer.specs.disk_model.Bytes.{up8}
+use Rattle.plan_model.specs.record_model.declared.attribute.OwnForm.TheVariants.{Resident, Mapped}
+use Rattle.plan_model.specs.record_model.declared.attribute.Attr.{Attr}
+use Rattle.plan_model.specs.record_model.declared.attribute.Sizes.{Sizes}
+use Rattle.plan_model.specs.record_model.declared.runs.Run.{Run}
+use Rattle.plan_model.specs.record_model.Attributes.{spelling, held_bytes}
+use Rattle.plan_model.specs.record_model.Pairs.{fits_bytes, signed_bytes, delta_bytes, pair_of, pairs_from, pairs_of}
+use Rattle.plan_model.proofs.record_model.PairsSigned.{length-signed_bytes, signed_width-least}
 use Rattle.record_writer.specs.Edits.{whole_length, form_length}
 use Rattle.record_writer.proofs.Measures.{length-spelling, held_short}
 use Rattle.step_model.specs.UsedLaws.{HasShortValue, AreFew}

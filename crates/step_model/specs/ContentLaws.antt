@@ -1,15 +1,15 @@
 -- Whose clusters an operation takes, and how the bodies of its plan leave all others.
 use Rattle.std.specs.Prelude.{◌≡◌, ℕ, ◌<◌, false, List}
 use Rattle.std.specs.List.{AllByRecursion}
-use Rattle.disk_model.specs.declared.block.Block.{Block}
-use Rattle.disk_model.specs.Sectors.{overlap}
-use Rattle.disk_model.specs.Content.{Content, HasSizes}
-use Rattle.state_model.specs.declared.geometry.Geometry.{Geometry}
-use Rattle.volume_model.specs.Volumes.{Volume}
-use Rattle.volume_model.specs.Owners.{uses}
-use Rattle.stream_laws.specs.Sharing.{StreamKey, stream_at, runs_in}
-use Rattle.plan_owners.specs.States.{Stands}
-use Rattle.plan_bodies.specs.Bodies.{NewBody, content_with, AreBodies}
+use Rattle.record_writer.specs.disk_model.declared.block.Block.{Block}
+use Rattle.record_writer.specs.disk_model.Sectors.{overlap}
+use Rattle.record_writer.specs.disk_model.Content.{Content, HasSizes}
+use Rattle.plan_model.specs.state_model.declared.geometry.Geometry.{Geometry}
+use Rattle.plan_model.specs.volume_model.Volumes.{Volume}
+use Rattle.plan_model.specs.volume_model.Owners.{uses}
+use Rattle.plan_model.specs.stream_laws.Sharing.{StreamKey, stream_at, runs_in}
+use Rattle.plan_model.specs.plan_owners.States.{Stands}
+use Rattle.plan_model.specs.plan_bodies.Bodies.{NewBody, content_with, AreBodies}
 use Rattle.step_model.specs.Placing.{Growth}
 use Rattle.step_model.specs.Contents.{MayDiffer, IsLeft}
 

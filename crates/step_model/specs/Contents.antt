@@ -2,16 +2,16 @@
 use Rattle.std.specs.Prelude.{◌≡◌, ◌⊎◌, ℕ, ◌<◌, ◌≤◌, Bool, true, false, not, ◌&&◌, ◌||◌, ◌==◌, nat_eq, List, Some}
 use Rattle.std.specs.List.{list_any, AllByRecursion}
 use Rattle.std.specs.Cmp.Lexicographic.{pointwise}
-use Rattle.disk_model.specs.declared.block.Block.{Block}
-use Rattle.disk_model.specs.declared.block.BlockKind.TheVariants.{FileRec}
-use Rattle.disk_model.specs.Sectors.{overlap}
-use Rattle.disk_model.specs.Content.{Content}
-use Rattle.bit_set.specs.Bits.{bit}
-use Rattle.state_model.specs.Streams.{block_at}
-use Rattle.volume_model.specs.Volumes.{Volume, count_of, table_file, mirror_file, bitmap_file, cluster_bits}
-use Rattle.volume_model.specs.Owners.{uses}
-use Rattle.stream_laws.specs.Sharing.{StreamKey, stream_at, runs_in}
-use Rattle.stream_laws.specs.Tables.{table_key}
+use Rattle.record_writer.specs.disk_model.declared.block.Block.{Block}
+use Rattle.record_writer.specs.disk_model.declared.block.BlockKind.TheVariants.{FileRec}
+use Rattle.record_writer.specs.disk_model.Sectors.{overlap}
+use Rattle.record_writer.specs.disk_model.Content.{Content}
+use Rattle.plan_model.specs.bit_set.Bits.{bit}
+use Rattle.plan_model.specs.state_model.Streams.{block_at}
+use Rattle.plan_model.specs.volume_model.Volumes.{Volume, count_of, table_file, mirror_file, bitmap_file, cluster_bits}
+use Rattle.plan_model.specs.volume_model.Owners.{uses}
+use Rattle.plan_model.specs.stream_laws.Sharing.{StreamKey, stream_at, runs_in}
+use Rattle.plan_model.specs.stream_laws.Tables.{table_key}
 use Rattle.plan_model.specs.Drafts.{FollowsOwners}
 use Rattle.plan_model.specs.Edits.{IsOwnedIn}
 use Rattle.step_model.specs.Placing.{Growth, AllPlaced, runs_after}

@@ -1,13 +1,13 @@
 -- The clusters of the streams that one operation lets grow, one stream after the other.
 use Rattle.std.specs.Prelude.{◌≡◌, ⊤, ℕ, ◌-◌, ◌<◌, ◌≤◌, Bool, false, not, nat_lt, if◌then◌else◌, ◌==◌, List, [], ◌∷◌, count_by}
 use Rattle.std.specs.List.{flat_map, sum_by, AllByRecursion}
-use Rattle.record_model.specs.declared.runs.Run.{Run}
-use Rattle.bit_set.specs.Bits.{bit}
+use Rattle.plan_model.specs.record_model.declared.runs.Run.{Run}
+use Rattle.plan_model.specs.bit_set.Bits.{bit}
 use Rattle.space_model.specs.Choosing.{chosen, with_runs}
 use Rattle.space_model.specs.Laws.{clusters_of}
-use Rattle.state_model.specs.Loads.{total_clusters}
-use Rattle.volume_model.specs.Owners.{uses}
-use Rattle.stream_laws.specs.Sharing.{StreamKey}
+use Rattle.plan_model.specs.state_model.Loads.{total_clusters}
+use Rattle.plan_model.specs.volume_model.Owners.{uses}
+use Rattle.plan_model.specs.stream_laws.Sharing.{StreamKey}
 use Rattle.stream_runs.specs.Runs.{merged, grown, front, last_cluster}
 
 -- A stream that comes to have so many clusters: its runs so far, those that it takes, and whether it stands in its record then, where it has

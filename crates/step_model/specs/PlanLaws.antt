@@ -1,8 +1,8 @@
 -- The streams of a plan take the clusters that are chosen for them.
 use Rattle.std.specs.Prelude.{ℕ}
-use Rattle.disk_model.specs.Content.{Content}
-use Rattle.volume_model.specs.Volumes.{Volume, cluster_bits}
-use Rattle.tree_model.specs.declared.script.Op.{Op}
+use Rattle.record_writer.specs.disk_model.Content.{Content}
+use Rattle.plan_model.specs.volume_model.Volumes.{Volume, cluster_bits}
+use Rattle.run_model.specs.tree_model.declared.script.Op.{Op}
 use Rattle.step_model.specs.Placing.{AllPlaced}
 use Rattle.step_model.specs.Plans.{Plan, IsPlan}
 

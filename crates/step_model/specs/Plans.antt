@@ -2,31 +2,31 @@
 -- which a name comes.
 use Rattle.std.specs.Prelude.{◌≡◌, ℕ, ◌+◌, ◌*◌, Bool, true, false, ◌==◌, nat_lt, if◌then◌else◌, List, [], ◌∷◌, ◌++◌, length, Option, Some, None, Result, Ok, Err}
 use Rattle.host_base.specs.declared.file_ref.FileRef.{FileRef}
-use Rattle.disk_model.specs.Content.{Content}
-use Rattle.record_model.specs.declared.attribute.Attr.{Attr}
-use Rattle.record_model.specs.Constants.{standard_information, file_name, data_type}
-use Rattle.record_model.specs.Records.{Record, used_of}
-use Rattle.file_tree.specs.declared.node.Node.{Node}
-use Rattle.file_tree.specs.declared.journal.Journal.{Journal}
-use Rattle.file_tree.specs.declared.tree.Tree.{Tree as FileTree}
-use Rattle.index_model.specs.declared.key.Key.{Key}
-use Rattle.index_model.specs.Trees.{Tree, levels}
-use Rattle.index_model.specs.Indexes.{node_of_block, nodes_of}
-use Rattle.index_model.specs.Laws.{HoldsIndex}
-use Rattle.index_change.specs.Plans.{root_room}
+use Rattle.record_writer.specs.disk_model.Content.{Content}
+use Rattle.plan_model.specs.record_model.declared.attribute.Attr.{Attr}
+use Rattle.plan_model.specs.record_model.Constants.{standard_information, file_name, data_type}
+use Rattle.plan_model.specs.record_model.Records.{Record, used_of}
+use Rattle.plan_model.specs.file_tree.declared.node.Node.{Node}
+use Rattle.plan_model.specs.file_tree.declared.journal.Journal.{Journal}
+use Rattle.plan_model.specs.file_tree.declared.tree.Tree.{Tree as FileTree}
+use Rattle.plan_model.specs.index_model.declared.key.Key.{Key}
+use Rattle.plan_model.specs.index_model.Trees.{Tree, levels}
+use Rattle.plan_model.specs.index_model.Indexes.{node_of_block, nodes_of}
+use Rattle.plan_model.specs.index_model.Laws.{HoldsIndex}
+use Rattle.plan_model.specs.index_change.Plans.{root_room}
 use Rattle.space_model.specs.Choosing.{with_runs}
-use Rattle.volume_model.specs.Volumes.{Volume, file_in, table_file, cluster_bits, upper_of}
-use Rattle.volume_model.specs.Indexes.{index_place, root_value}
-use Rattle.volume_state.specs.Trees.{tree_of}
-use Rattle.tree_laws.specs.Parts.{journal_number}
-use Rattle.tree_model.specs.declared.script.Op.{Op}
-use Rattle.tree_model.specs.declared.script.Op.TheVariants as op
-use Rattle.tree_model.specs.declared.reply.Reply.{Reply}
-use Rattle.tree_model.specs.declared.reply.Reply.TheVariants.{RecordFull, IndexDeep}
-use Rattle.tree_model.specs.Walks.{reached, reached_directory}
-use Rattle.tree_model.specs.Needs.{changes_file}
-use Rattle.tree_model.specs.Refusals.{parent_path, new_name}
-use Rattle.tree_model.specs.Effects.{numbers_to_take, least_ref, new_link}
+use Rattle.plan_model.specs.volume_model.Volumes.{Volume, file_in, table_file, cluster_bits, upper_of}
+use Rattle.plan_model.specs.volume_model.Indexes.{index_place, root_value}
+use Rattle.plan_model.specs.volume_state.Trees.{tree_of}
+use Rattle.plan_model.specs.tree_laws.Parts.{journal_number}
+use Rattle.run_model.specs.tree_model.declared.script.Op.{Op}
+use Rattle.run_model.specs.tree_model.declared.script.Op.TheVariants as op
+use Rattle.run_model.specs.tree_model.declared.reply.Reply.{Reply}
+use Rattle.run_model.specs.tree_model.declared.reply.Reply.TheVariants.{RecordFull, IndexDeep}
+use Rattle.run_model.specs.tree_model.Walks.{reached, reached_directory}
+use Rattle.run_model.specs.tree_model.Needs.{changes_file}
+use Rattle.run_model.specs.tree_model.Refusals.{parent_path, new_name}
+use Rattle.run_model.specs.tree_model.Effects.{numbers_to_take, least_ref, new_link}
 use Rattle.step_model.specs.Placing.{Growth, taken_runs}
 use Rattle.step_model.specs.Used.{most_used, used_after, new_attr, value_attr}
 use Rattle.step_model.specs.Streams.{Changed, no_change, one_change, data_comes, table_comes, index_comes, entries_come}

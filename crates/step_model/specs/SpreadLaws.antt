@@ -1,15 +1,15 @@
 -- A plan of a directory's index spreads it as an operation may.
 use Rattle.std.specs.Prelude.{ℕ, ◌-◌, ◌≤◌, List}
-use Rattle.disk_model.specs.Content.{Content, HasSizes}
-use Rattle.file_tree.specs.declared.link.Link.{Link}
-use Rattle.index_model.specs.declared.key.Key.{Key}
-use Rattle.index_model.specs.Trees.{Tree, walk}
-use Rattle.index_model.specs.Indexes.{Place, node_of_block, nodes_of}
-use Rattle.index_plan.specs.Search.{put}
-use Rattle.index_change.specs.declared.plan.DirPlan.{DirPlan}
-use Rattle.index_change.specs.Changing.{IsLaidOut, uses}
-use Rattle.index_change.specs.Orders.{goes, link_of}
-use Rattle.index_change.specs.Plans.{root_room, seventeen, needs_level, NewIndex, TakesLittle}
+use Rattle.record_writer.specs.disk_model.Content.{Content, HasSizes}
+use Rattle.plan_model.specs.file_tree.declared.link.Link.{Link}
+use Rattle.plan_model.specs.index_model.declared.key.Key.{Key}
+use Rattle.plan_model.specs.index_model.Trees.{Tree, walk}
+use Rattle.plan_model.specs.index_model.Indexes.{Place, node_of_block, nodes_of}
+use Rattle.plan_model.specs.index_plan.Search.{put}
+use Rattle.plan_model.specs.index_change.declared.plan.DirPlan.{DirPlan}
+use Rattle.plan_model.specs.index_change.Changing.{IsLaidOut, uses}
+use Rattle.plan_model.specs.index_change.Orders.{goes, link_of}
+use Rattle.plan_model.specs.index_change.Plans.{root_room, seventeen, needs_level, NewIndex, TakesLittle}
 use Rattle.step_model.specs.Spreads.{blocks_in, IsSpread}
 
 -- The index after a plan that puts a key in is spread so, with a level more where the plan needs one. As many of its fresh blocks as it

@@ -1,22 +1,22 @@
 -- How an index may be spread over its blocks with one entry more: all that an operation leaves free.
 use Rattle.std.specs.Prelude.{◌≡◌, ◌⊎◌, ⊤, ℕ, ◌+◌, ◌-◌, ◌<◌, ◌≤◌, Bool, true, false, List, All, Option, Some, [], ◌∷◌}
-use Rattle.record_model.specs.declared.entry.Entry.{Entry as Raw}
-use Rattle.record_model.specs.Values.{is_file_name}
-use Rattle.record_model.specs.Records.{Record}
-use Rattle.record_model.specs.Constants.{standard_information}
-use Rattle.record_model.specs.Nodes.{node_used, node_room, entries_length, last_entry}
-use Rattle.file_tree.specs.declared.link.Link.{Link}
-use Rattle.index_model.specs.declared.key.Key.{Key}
-use Rattle.index_model.specs.Trees.{Tree, Leaf, Down, Entry, DownEntry, walk, held, levels, one_if, raws_of}
-use Rattle.index_model.specs.Indexes.{most_levels}
-use Rattle.index_plan.specs.Plans.{Spot}
-use Rattle.index_plan.specs.Growth.{fits_in}
-use Rattle.index_plan.specs.Lists.{way}
-use Rattle.index_plan.specs.Room.{is_tight, tight_count}
-use Rattle.index_plan.specs.Search.{path_to, put}
-use Rattle.index_change.specs.Orders.{goes, link_of}
-use Rattle.index_change.specs.Plans.{has_blocks, bytes_more}
-use Rattle.state_model.specs.Files.{has_type}
+use Rattle.plan_model.specs.record_model.declared.entry.Entry.{Entry as Raw}
+use Rattle.plan_model.specs.record_model.Values.{is_file_name}
+use Rattle.plan_model.specs.record_model.Records.{Record}
+use Rattle.plan_model.specs.record_model.Constants.{standard_information}
+use Rattle.plan_model.specs.record_model.Nodes.{node_used, node_room, entries_length, last_entry}
+use Rattle.plan_model.specs.file_tree.declared.link.Link.{Link}
+use Rattle.plan_model.specs.index_model.declared.key.Key.{Key}
+use Rattle.plan_model.specs.index_model.Trees.{Tree, Leaf, Down, Entry, DownEntry, walk, held, levels, one_if, raws_of}
+use Rattle.plan_model.specs.index_model.Indexes.{most_levels}
+use Rattle.plan_model.specs.index_plan.Plans.{Spot}
+use Rattle.plan_model.specs.index_plan.Growth.{fits_in}
+use Rattle.plan_model.specs.index_plan.Lists.{way}
+use Rattle.plan_model.specs.index_plan.Room.{is_tight, tight_count}
+use Rattle.plan_model.specs.index_plan.Search.{path_to, put}
+use Rattle.plan_model.specs.index_change.Orders.{goes, link_of}
+use Rattle.plan_model.specs.index_change.Plans.{has_blocks, bytes_more}
+use Rattle.plan_model.specs.state_model.Files.{has_type}
 use Rattle.step_model.specs.Used.{most_used}
 
 -- ---- an entry more

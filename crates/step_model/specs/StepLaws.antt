@@ -1,16 +1,16 @@
 -- What a step of a content keeps, what it shares with a step of the tree, and its turns.
 use Rattle.std.specs.Prelude.{◌≡◌, ◌≢◌, ℕ, ◌+◌, ◌<◌, ◌≤◌, Bool, true, false, List, [], ◌∷◌, ◌++◌, Some, None}
-use Rattle.disk_model.specs.Content.{Content}
-use Rattle.file_tree.specs.declared.tree.Tree.{Tree}
-use Rattle.state_model.specs.declared.geometry.Geometry.{Geometry}
-use Rattle.volume_model.specs.Volumes.{Volume, upper_of}
-use Rattle.volume_state.specs.Trees.{tree_of}
-use Rattle.plan_owners.specs.States.{Stands}
-use Rattle.tree_model.specs.declared.script.Op.{Op}
-use Rattle.tree_model.specs.declared.script.Op.TheVariants.{Sync}
-use Rattle.tree_model.specs.declared.reply.Reply.{Reply}
-use Rattle.tree_model.specs.declared.reply.Reply.TheVariants as reply
-use Rattle.tree_model.specs.Steps.{HasStep, step_refusal, IsDone, IsStep}
+use Rattle.record_writer.specs.disk_model.Content.{Content}
+use Rattle.plan_model.specs.file_tree.declared.tree.Tree.{Tree}
+use Rattle.plan_model.specs.state_model.declared.geometry.Geometry.{Geometry}
+use Rattle.plan_model.specs.volume_model.Volumes.{Volume, upper_of}
+use Rattle.plan_model.specs.volume_state.Trees.{tree_of}
+use Rattle.plan_model.specs.plan_owners.States.{Stands}
+use Rattle.run_model.specs.tree_model.declared.script.Op.{Op}
+use Rattle.run_model.specs.tree_model.declared.script.Op.TheVariants.{Sync}
+use Rattle.run_model.specs.tree_model.declared.reply.Reply.{Reply}
+use Rattle.run_model.specs.tree_model.declared.reply.Reply.TheVariants as reply
+use Rattle.run_model.specs.tree_model.Steps.{HasStep, step_refusal, IsDone, IsStep}
 use Rattle.run_model.specs.Runs.{RunStart, TakesStep, IsTreeTurn, Segment, own, serial_of_last}
 use Rattle.run_model.specs.declared.turn.Turn.{Turn}
 use Rattle.step_model.specs.Plans.{Plan, IsPlan, content_rows}

@@ -1,27 +1,27 @@
 -- One step of a content: what an operation answers, and what it leaves.
 use Rattle.std.specs.Prelude.{◌≡◌, ◌⊎◌, ⊤, ℕ, Bool, true, false, List, [], ◌∷◌, Option, Some, None, Result, Ok, Err, IsOkAnd, IsSomeAnd}
-use Rattle.disk_model.specs.Content.{Content}
-use Rattle.file_tree.specs.declared.node.Node.{Node}
-use Rattle.file_tree.specs.declared.node.Why.TheVariants as why
-use Rattle.record_model.specs.Records.{Record}
-use Rattle.index_model.specs.Trees.{Tree}
-use Rattle.index_model.specs.Laws.{HoldsIndex}
-use Rattle.state_model.specs.declared.geometry.Geometry.{Geometry}
-use Rattle.state_model.specs.declared.geometry.MapRefusal.{MapRefusal}
-use Rattle.volume_model.specs.Volumes.{Volume, volume_of, file_in, upper_of}
-use Rattle.volume_model.specs.Indexes.{index_place, root_value}
-use Rattle.volume_state.specs.Trees.{tree_of, volume_journal}
-use Rattle.tree_laws.specs.Parts.{journal_number}
-use Rattle.plan_owners.specs.States.{Stands}
-use Rattle.tree_model.specs.declared.script.Op.{Op}
-use Rattle.tree_model.specs.declared.script.Op.TheVariants as op
-use Rattle.tree_model.specs.declared.reply.Reply.{Reply}
-use Rattle.tree_model.specs.declared.reply.Reply.TheVariants as reply
-use Rattle.tree_model.specs.Walks.{reached, reached_directory}
-use Rattle.tree_model.specs.Needs.{changes_file}
-use Rattle.tree_model.specs.Refusals.{parent_path}
-use Rattle.tree_model.specs.Effects.{numbers_to_take, least_ref}
-use Rattle.tree_model.specs.Steps.{HasStep, step_refusal, IsDone}
+use Rattle.record_writer.specs.disk_model.Content.{Content}
+use Rattle.plan_model.specs.file_tree.declared.node.Node.{Node}
+use Rattle.plan_model.specs.file_tree.declared.node.Why.TheVariants as why
+use Rattle.plan_model.specs.record_model.Records.{Record}
+use Rattle.plan_model.specs.index_model.Trees.{Tree}
+use Rattle.plan_model.specs.index_model.Laws.{HoldsIndex}
+use Rattle.plan_model.specs.state_model.declared.geometry.Geometry.{Geometry}
+use Rattle.plan_model.specs.state_model.declared.geometry.MapRefusal.{MapRefusal}
+use Rattle.plan_model.specs.volume_model.Volumes.{Volume, volume_of, file_in, upper_of}
+use Rattle.plan_model.specs.volume_model.Indexes.{index_place, root_value}
+use Rattle.plan_model.specs.volume_state.Trees.{tree_of, volume_journal}
+use Rattle.plan_model.specs.tree_laws.Parts.{journal_number}
+use Rattle.plan_model.specs.plan_owners.States.{Stands}
+use Rattle.run_model.specs.tree_model.declared.script.Op.{Op}
+use Rattle.run_model.specs.tree_model.declared.script.Op.TheVariants as op
+use Rattle.run_model.specs.tree_model.declared.reply.Reply.{Reply}
+use Rattle.run_model.specs.tree_model.declared.reply.Reply.TheVariants as reply
+use Rattle.run_model.specs.tree_model.Walks.{reached, reached_directory}
+use Rattle.run_model.specs.tree_model.Needs.{changes_file}
+use Rattle.run_model.specs.tree_model.Refusals.{parent_path}
+use Rattle.run_model.specs.tree_model.Effects.{numbers_to_take, least_ref}
+use Rattle.run_model.specs.tree_model.Steps.{HasStep, step_refusal, IsDone}
 use Rattle.run_model.specs.Runs.{RunStart, IsTurn, next_of}
 use Rattle.run_model.specs.declared.turn.Turn.{Turn}
 use Rattle.step_model.specs.Plans.{Plan, IsPlan, content_rows}

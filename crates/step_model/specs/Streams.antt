@@ -1,27 +1,27 @@
 -- The streams that an operation changes: what comes into their record, and which clusters they take.
 use Rattle.std.specs.Prelude.{ℕ, ◌+◌, ◌-◌, ◌*◌, ◌/◌, max, Bool, true, false, ◌&&◌, ◌==◌, nat_lt, if◌then◌else◌, List, [], ◌∷◌, ◌++◌, Option}
-use Rattle.record_model.specs.declared.attribute.Attr.{Attr}
-use Rattle.record_model.specs.declared.runs.Run.{Run}
-use Rattle.record_model.specs.Constants.{standard_information, data_type, bitmap_type, index_root, index_allocation, names_index}
-use Rattle.record_model.specs.Nodes.{entries_length}
-use Rattle.record_model.specs.Records.{Record}
-use Rattle.file_tree.specs.declared.node.Node.{Node}
-use Rattle.file_tree.specs.declared.journal.Journal.{Journal}
-use Rattle.index_model.specs.Trees.{Tree, raws_of}
+use Rattle.plan_model.specs.record_model.declared.attribute.Attr.{Attr}
+use Rattle.plan_model.specs.record_model.declared.runs.Run.{Run}
+use Rattle.plan_model.specs.record_model.Constants.{standard_information, data_type, bitmap_type, index_root, index_allocation, names_index}
+use Rattle.plan_model.specs.record_model.Nodes.{entries_length}
+use Rattle.plan_model.specs.record_model.Records.{Record}
+use Rattle.plan_model.specs.file_tree.declared.node.Node.{Node}
+use Rattle.plan_model.specs.file_tree.declared.journal.Journal.{Journal}
+use Rattle.plan_model.specs.index_model.Trees.{Tree, raws_of}
 use Rattle.space_model.specs.Choosing.{chosen, with_runs}
-use Rattle.state_model.specs.declared.stream.Stream.{Stream}
-use Rattle.state_model.specs.Files.{has_type}
-use Rattle.state_model.specs.Loads.{total_clusters}
-use Rattle.state_model.specs.Streams.{stream_of}
-use Rattle.volume_model.specs.Volumes.{Volume, count_of, table_file, size_or, record_bitmap}
-use Rattle.volume_model.specs.Nodes.{clusters_or}
-use Rattle.volume_state.specs.Journals.{entries_name}
-use Rattle.stream_laws.specs.Sharing.{StreamKey, runs_in}
-use Rattle.stream_laws.specs.Tables.{table_key}
-use Rattle.tree_model.specs.declared.script.Op.{Op}
-use Rattle.tree_model.specs.Needs.{size_after, shrinks, clusters_for, chunk_clusters}
-use Rattle.tree_model.specs.Effects.{valid_after, clusters_after}
-use Rattle.tree_model.specs.Refusals.{more_records}
+use Rattle.plan_model.specs.state_model.declared.stream.Stream.{Stream}
+use Rattle.plan_model.specs.state_model.Files.{has_type}
+use Rattle.plan_model.specs.state_model.Loads.{total_clusters}
+use Rattle.plan_model.specs.state_model.Streams.{stream_of}
+use Rattle.plan_model.specs.volume_model.Volumes.{Volume, count_of, table_file, size_or, record_bitmap}
+use Rattle.plan_model.specs.volume_model.Nodes.{clusters_or}
+use Rattle.plan_model.specs.volume_state.Journals.{entries_name}
+use Rattle.plan_model.specs.stream_laws.Sharing.{StreamKey, runs_in}
+use Rattle.plan_model.specs.stream_laws.Tables.{table_key}
+use Rattle.run_model.specs.tree_model.declared.script.Op.{Op}
+use Rattle.run_model.specs.tree_model.Needs.{size_after, shrinks, clusters_for, chunk_clusters}
+use Rattle.run_model.specs.tree_model.Effects.{valid_after, clusters_after}
+use Rattle.run_model.specs.tree_model.Refusals.{more_records}
 use Rattle.stream_runs.specs.Runs.{last_cluster}
 use Rattle.step_model.specs.Placing.{Growth, runs_after}
 use Rattle.step_model.specs.Used.{used_after, new_attr, own_attr, value_attr, placed_attr, is_in_record, stays_in}

@@ -2,18 +2,18 @@
 -- that stay.
 use Rattle.std.specs.Prelude.{ℕ, ◌-◌, ◌*◌, Bool, true, false, not, ◌&&◌, ◌||◌, ◌==◌, nat_le, if◌then◌else◌, List, [], ◌∷◌, ◌++◌, filter, Option, Some, None}
 use Rattle.std.specs.List.{list_any}
-use Rattle.disk_model.specs.Bytes.{zeros}
-use Rattle.record_model.specs.declared.attribute.OwnForm.{OwnForm}
-use Rattle.record_model.specs.declared.attribute.OwnForm.TheVariants.{Resident, Mapped}
-use Rattle.record_model.specs.declared.attribute.Attr.{Attr}
-use Rattle.record_model.specs.declared.runs.Run.{Run}
-use Rattle.record_model.specs.Attributes.{is_compressed_or_sparse}
-use Rattle.record_model.specs.Pairs.{pairs_of}
-use Rattle.record_model.specs.Records.{Record, used_of}
-use Rattle.state_model.specs.declared.stream.Stream.{Stream}
-use Rattle.state_model.specs.declared.stream.Stream.TheVariants.{Held, Placed}
-use Rattle.state_model.specs.Loads.{total_clusters}
-use Rattle.state_model.specs.Streams.{is_attribute_of, attributes_of}
+use Rattle.record_writer.specs.disk_model.Bytes.{zeros}
+use Rattle.plan_model.specs.record_model.declared.attribute.OwnForm.{OwnForm}
+use Rattle.plan_model.specs.record_model.declared.attribute.OwnForm.TheVariants.{Resident, Mapped}
+use Rattle.plan_model.specs.record_model.declared.attribute.Attr.{Attr}
+use Rattle.plan_model.specs.record_model.declared.runs.Run.{Run}
+use Rattle.plan_model.specs.record_model.Attributes.{is_compressed_or_sparse}
+use Rattle.plan_model.specs.record_model.Pairs.{pairs_of}
+use Rattle.plan_model.specs.record_model.Records.{Record, used_of}
+use Rattle.plan_model.specs.state_model.declared.stream.Stream.{Stream}
+use Rattle.plan_model.specs.state_model.declared.stream.Stream.TheVariants.{Held, Placed}
+use Rattle.plan_model.specs.state_model.Loads.{total_clusters}
+use Rattle.plan_model.specs.state_model.Streams.{is_attribute_of, attributes_of}
 
 -- the most used bytes of a record
 abbrev pub most_used : ℕ

@@ -2,19 +2,19 @@
 use Rattle.std.specs.Prelude.{◌≡◌, ℕ, ◌+◌, ◌*◌, ◌≤◌, ◌^◌, Bool, true, List, [], ◌∷◌, length, if◌then◌else◌, IfSome}
 use Rattle.std.specs.List.{AllByRecursion}
 use Rattle.std.specs.List.Sorted.{IsPermutation}
-use Rattle.record_model.specs.declared.attribute.OwnForm.TheVariants.{Resident, Mapped}
-use Rattle.record_model.specs.declared.attribute.Attr.{Attr}
-use Rattle.record_model.specs.declared.attribute.Sizes.{Sizes}
-use Rattle.record_model.specs.declared.runs.Run.{Run}
-use Rattle.record_model.specs.Attributes.{is_compressed_or_sparse, spelling}
-use Rattle.record_model.specs.Constants.{standard_information, file_name, data_type}
-use Rattle.record_model.specs.Pairs.{pairs_of}
-use Rattle.record_model.specs.Records.{Record, used_of}
+use Rattle.plan_model.specs.record_model.declared.attribute.OwnForm.TheVariants.{Resident, Mapped}
+use Rattle.plan_model.specs.record_model.declared.attribute.Attr.{Attr}
+use Rattle.plan_model.specs.record_model.declared.attribute.Sizes.{Sizes}
+use Rattle.plan_model.specs.record_model.declared.runs.Run.{Run}
+use Rattle.plan_model.specs.record_model.Attributes.{is_compressed_or_sparse, spelling}
+use Rattle.plan_model.specs.record_model.Constants.{standard_information, file_name, data_type}
+use Rattle.plan_model.specs.record_model.Pairs.{pairs_of}
+use Rattle.plan_model.specs.record_model.Records.{Record, used_of}
 use Rattle.record_writer.specs.Edits.{whole_length}
-use Rattle.file_tree.specs.declared.node.Node.{Node}
-use Rattle.volume_model.specs.Volumes.{size_or}
-use Rattle.tree_model.specs.declared.script.Op.{Op}
-use Rattle.tree_model.specs.Needs.{shrinks}
+use Rattle.plan_model.specs.file_tree.declared.node.Node.{Node}
+use Rattle.plan_model.specs.volume_model.Volumes.{size_or}
+use Rattle.run_model.specs.tree_model.declared.script.Op.{Op}
+use Rattle.run_model.specs.tree_model.Needs.{shrinks}
 use Rattle.step_model.specs.Placing.{runs_after}
 use Rattle.step_model.specs.Used.{most_used, used_after, value_attr, placed_attr}
 use Rattle.step_model.specs.Streams.{stream_in, data_of, data_comes}

@@ -1,18 +1,18 @@
 -- Worked rows: clusters that streams take one after the other, and records that a change makes too full.
 use Rattle.std.specs.Prelude.{◌≡◌, ℕ, Bool, true, false, List, [], ◌∷◌, Option, Some, None}
-use Rattle.disk_model.specs.Bytes.{zeros}
-use Rattle.record_model.specs.declared.attribute.Attr.{Attr}
-use Rattle.record_model.specs.declared.runs.Run.{Run}
-use Rattle.record_model.specs.Constants.{standard_information, file_name, data_type}
-use Rattle.record_model.specs.Records.{Record}
-use Rattle.file_tree.specs.declared.node.Kind.TheVariants.{File}
-use Rattle.file_tree.specs.declared.node.Node.{Node}
-use Rattle.file_tree.specs.declared.node.Why.TheVariants as why
-use Rattle.stream_laws.specs.Sharing.{StreamKey}
-use Rattle.tree_model.specs.declared.script.Op.{Op}
-use Rattle.tree_model.specs.declared.script.Op.TheVariants as op
-use Rattle.tree_model.specs.declared.reply.Reply.{Reply}
-use Rattle.tree_model.specs.declared.reply.Reply.TheVariants as reply
+use Rattle.record_writer.specs.disk_model.Bytes.{zeros}
+use Rattle.plan_model.specs.record_model.declared.attribute.Attr.{Attr}
+use Rattle.plan_model.specs.record_model.declared.runs.Run.{Run}
+use Rattle.plan_model.specs.record_model.Constants.{standard_information, file_name, data_type}
+use Rattle.plan_model.specs.record_model.Records.{Record}
+use Rattle.plan_model.specs.file_tree.declared.node.Kind.TheVariants.{File}
+use Rattle.plan_model.specs.file_tree.declared.node.Node.{Node}
+use Rattle.plan_model.specs.file_tree.declared.node.Why.TheVariants as why
+use Rattle.plan_model.specs.stream_laws.Sharing.{StreamKey}
+use Rattle.run_model.specs.tree_model.declared.script.Op.{Op}
+use Rattle.run_model.specs.tree_model.declared.script.Op.TheVariants as op
+use Rattle.run_model.specs.tree_model.declared.reply.Reply.{Reply}
+use Rattle.run_model.specs.tree_model.declared.reply.Reply.TheVariants as reply
 use Rattle.step_model.specs.Placing.{Growth, AllPlaced, runs_after}
 use Rattle.step_model.specs.Used.{used_after, new_attr, value_attr}
 use Rattle.step_model.specs.Streams.{Comes, data_comes}

@@ -11,3 +11,6 @@ pub use laws::{
     steps_of_trees, steps_stay, turns_of_contents, used_bytes, worked_answers, worked_clusters,
     worked_records,
 };
+pub use plan_model::{Node, is_attribute_of, stream_of};
+pub use record_writer::{WrittenRecord, normal_attr, push_copies};
+pub use run_model::{Op, clusters_after, clusters_for, shrinks, size_after, valid_after};

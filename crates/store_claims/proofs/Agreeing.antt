@@ -3,9 +3,9 @@ use Rattle.std.proofs.Common.{◌≡◌, ℕ, zero, suc, ◌+◌, ◌-◌, ◌<�
 use Rattle.std.specs.Prelude.{◌&&◌, ◌||◌, ◌==◌, unwrap_or}
 use Rattle.std.specs.List.{list_all, range_with_len}
 use Rattle.std.proofs.lemmas.Bool.{eqb-true, and_parts, and_from}
-use Rattle.disk_model.specs.declared.block.Block.{Block}
-use Rattle.log_model.specs.declared.entry.Entry.{Entry}
-use Rattle.log_model.specs.Logs.{last_said, is_shadowed}
+use Rattle.store_model.specs.disk_model.declared.block.Block.{Block}
+use Rattle.store_model.specs.log_model.declared.entry.Entry.{Entry}
+use Rattle.store_model.specs.log_model.Logs.{last_said, is_shadowed}
 use Rattle.store_model.specs.Logs.{commits, ended_with}
 use Rattle.store_model.specs.Stores.{Store}
 use Rattle.store_model.proofs.Told.{true≢false, Said, last_said_is}

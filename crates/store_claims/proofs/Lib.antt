@@ -1,3 +1,4 @@
+pub use Rattle.store_model.proofs as store_model
 pub mod Lists
 pub mod Agreeing
 pub mod Moving

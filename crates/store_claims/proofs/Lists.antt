@@ -4,12 +4,12 @@ use Rattle.std.specs.Prelude.{◌||◌, ◌==◌, if◌then◌else◌}
 use Rattle.std.specs.Option.{option_or}
 use Rattle.std.proofs.lemmas.List.{take_all, take-append-le, drop-append-le}
 use mathlib.Core.Path.{fun_ext}
-use Rattle.disk_model.specs.declared.block.Block.{Block}
-use Rattle.disk_model.specs.Sectors.{same_block, are_rivals}
-use Rattle.log_model.specs.declared.entry.Entry.{Entry}
-use Rattle.log_model.specs.Logs.{updates, is_commit, is_ended, last_said}
-use Rattle.log_model.specs.StoreLaws.{is_named}
-use Rattle.log_model.proofs.Telling.{last_said-append}
+use Rattle.store_model.specs.disk_model.declared.block.Block.{Block}
+use Rattle.store_model.specs.disk_model.Sectors.{same_block, are_rivals}
+use Rattle.store_model.specs.log_model.declared.entry.Entry.{Entry}
+use Rattle.store_model.specs.log_model.Logs.{updates, is_commit, is_ended, last_said}
+use Rattle.store_model.specs.log_model.StoreLaws.{is_named}
+use Rattle.store_model.proofs.log_model.Telling.{last_said-append}
 use Rattle.store_model.specs.Logs.{IsUpdate, AreUpdates, commit_by, commits, IsClaimed, ended_with}
 use Rattle.store_model.proofs.Told.{false_true, none_true, and-false, same_self, rivals_other, updates_is, rival_is, no_commit, all_take, commits-append, ends-commit, ends_own, said_unnamed, says}
 use Rattle.store_model.proofs.Change.{longer, commits-drop_all}

@@ -3,11 +3,11 @@ use Rattle.std.proofs.Common.{◌≡◌, ℕ, suc, ◌-◌, ◌≤◌, Bool, tru
 use Rattle.std.specs.Prelude.{◌&&◌, ◌||◌, not}
 use Rattle.std.proofs.lemmas.List.{drop_all, drop-append-le}
 use mathlib.Core.Path.{fun_ext}
-use Rattle.disk_model.specs.declared.block.Block.{Block}
-use Rattle.disk_model.specs.Sectors.{same_block, are_rivals}
-use Rattle.disk_model.proofs.Frames.{same_block-is}
-use Rattle.sector_device.specs.Disks.{Disk}
-use Rattle.log_model.specs.declared.entry.Entry.{Entry}
+use Rattle.store_model.specs.disk_model.declared.block.Block.{Block}
+use Rattle.store_model.specs.disk_model.Sectors.{same_block, are_rivals}
+use Rattle.store_model.proofs.disk_model.Frames.{same_block-is}
+use Rattle.store_model.specs.sector_device.Disks.{Disk}
+use Rattle.store_model.specs.log_model.declared.entry.Entry.{Entry}
 use Rattle.store_model.specs.Logs.{AllBytes, AreUpdates, commit_by}
 use Rattle.store_model.specs.Geometry.{Geometry}
 use Rattle.store_model.specs.Stores.{Window, Store, IsSound}

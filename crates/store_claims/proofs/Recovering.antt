@@ -3,11 +3,11 @@ use Rattle.std.proofs.Common.{◌≡◌, ◌⊎◌, inl, inr, ⊎_elim, ℕ, ◌
 use Rattle.std.specs.Prelude.{All}
 use Rattle.std.proofs.lemmas.List.{drop-drop}
 use Rattle.std.proofs.lemmas.List.Elements.{All-from_recursion}
-use Rattle.disk_model.specs.declared.block.Block.{Block}
-use Rattle.disk_model.specs.Content.{content_of}
-use Rattle.fixup_record.specs.Spellings.{has_spelling}
-use Rattle.log_model.specs.declared.entry.Entry.{Entry}
-use Rattle.log_model.specs.Logs.{IsLevel, is_shadowed, is_written_out}
+use Rattle.store_model.specs.disk_model.declared.block.Block.{Block}
+use Rattle.store_model.specs.disk_model.Content.{content_of}
+use Rattle.store_model.specs.fixup_record.Spellings.{has_spelling}
+use Rattle.store_model.specs.log_model.declared.entry.Entry.{Entry}
+use Rattle.store_model.specs.log_model.Logs.{IsLevel, is_shadowed, is_written_out}
 use Rattle.store_model.specs.Logs.{commits, IsClaimed}
 use Rattle.store_model.specs.Geometry.{SectorBytes, Geometry}
 use Rattle.store_model.specs.Stores.{Store, member, IsSound, Image, MayLeave, list_of, Restores, RecoversTo}

@@ -1,10 +1,10 @@
 -- Nothing that is claimed is harmed.
 use Rattle.std.proofs.Common.{◌≡◌, ⊎_elim, ℕ, ◌+◌, ◌≤◌, Bool, true, false, List, length, take, drop, refl, sym, ◌∙◌, ap, arith, length-take}
 use Rattle.std.proofs.lemmas.List.{take_all}
-use Rattle.disk_model.specs.declared.block.Block.{Block}
-use Rattle.disk_model.specs.Sectors.{are_rivals}
-use Rattle.log_model.specs.declared.entry.Entry.{Entry}
-use Rattle.log_model.specs.Logs.{is_ended, last_said}
+use Rattle.store_model.specs.disk_model.declared.block.Block.{Block}
+use Rattle.store_model.specs.disk_model.Sectors.{are_rivals}
+use Rattle.store_model.specs.log_model.declared.entry.Entry.{Entry}
+use Rattle.store_model.specs.log_model.Logs.{is_ended, last_said}
 use Rattle.store_model.specs.Logs.{commits, ended_with}
 use Rattle.store_model.specs.Geometry.{Geometry}
 use Rattle.store_model.specs.Stores.{Store, IsSound}

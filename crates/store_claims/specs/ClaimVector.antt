@@ -1,6 +1,6 @@
 -- Small lists: of a plain block, and of the file record around it.
 use Rattle.std.specs.Prelude.{◌≡◌, [], ◌∷◌, List, true, false}
-use Rattle.log_model.specs.declared.entry.Entry.{Entry}
+use Rattle.store_model.specs.log_model.declared.entry.Entry.{Entry}
 use Rattle.store_model.specs.StoreVector.{plain, record_around, puts, puts_record, ends}
 use Rattle.store_claims.specs.Claims.{claims_in, claims_with}
 

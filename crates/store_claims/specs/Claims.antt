@@ -1,9 +1,9 @@
 -- Which blocks a store's log claims: no list of entries that recovery may read shadows them.
 use Rattle.std.specs.Prelude.{◌≡◌, ◌≢◌, ℕ, suc, ◌-◌, ◌≤◌, ◌==◌, ◌&&◌, ◌||◌, not, Bool, true, false, List, length, take, drop, Some, unwrap_or}
 use Rattle.std.specs.List.{list_all, range_with_len}
-use Rattle.disk_model.specs.declared.block.Block.{Block}
-use Rattle.log_model.specs.declared.entry.Entry.{Entry}
-use Rattle.log_model.specs.Logs.{last_said, is_shadowed}
+use Rattle.store_model.specs.disk_model.declared.block.Block.{Block}
+use Rattle.store_model.specs.log_model.declared.entry.Entry.{Entry}
+use Rattle.store_model.specs.log_model.Logs.{last_said, is_shadowed}
 use Rattle.store_model.specs.Logs.{commits, IsClaimed, ended_with}
 use Rattle.store_model.specs.Stores.{Store, Image}
 

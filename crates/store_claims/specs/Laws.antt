@@ -1,9 +1,9 @@
 -- The laws of claims.
 use Rattle.std.specs.Prelude.{◌≡◌, ◌↔◌, ℕ, ◌+◌, ◌≤◌, Bool, true, false, List, length}
-use Rattle.disk_model.specs.declared.block.Block.{Block}
-use Rattle.sector_device.specs.Disks.{Disk}
-use Rattle.log_model.specs.declared.entry.Entry.{Entry}
-use Rattle.log_model.specs.Logs.{is_shadowed}
+use Rattle.store_model.specs.disk_model.declared.block.Block.{Block}
+use Rattle.store_model.specs.sector_device.Disks.{Disk}
+use Rattle.store_model.specs.log_model.declared.entry.Entry.{Entry}
+use Rattle.store_model.specs.log_model.Logs.{is_shadowed}
 use Rattle.store_model.specs.Logs.{AllBytes, IsClaimed}
 use Rattle.store_model.specs.Geometry.{SectorBytes, Geometry}
 use Rattle.store_model.specs.Stores.{Store, member, IsSound, Image, MayLeave, list_of, RecoversTo}

@@ -1,7 +1,7 @@
 -- What an event does to the claims of a store.
 use Rattle.std.specs.Prelude.{◌≡◌, ℕ, suc, Bool, true, false}
-use Rattle.disk_model.specs.declared.block.Block.{Block}
-use Rattle.disk_model.specs.Sectors.{same_block, are_rivals}
+use Rattle.store_model.specs.disk_model.declared.block.Block.{Block}
+use Rattle.store_model.specs.disk_model.Sectors.{same_block, are_rivals}
 use Rattle.store_model.specs.Logs.{has_update}
 use Rattle.store_model.specs.Geometry.{Geometry}
 use Rattle.store_model.specs.Stores.{Store}

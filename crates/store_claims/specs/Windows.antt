@@ -1,6 +1,6 @@
 -- What a layer above sees of a store.
 use Rattle.std.specs.Prelude.{ℕ, Bool, length}
-use Rattle.disk_model.specs.Content.{Content}
+use Rattle.store_model.specs.disk_model.Content.{Content}
 use Rattle.store_model.specs.Stores.{Store, member}
 use Rattle.store_model.specs.Volumes.{content_with}
 use Rattle.store_claims.specs.Claims.{ClaimWindow, claims_of}

@@ -13,11 +13,11 @@ use Rattle.log_page.specs.declared.places.LogPlace.{LogPlace}
 use Rattle.log_reading.specs.LogPages.{sector_in, sector_below, log_sector}
 use Rattle.log_area.specs.Areas.{page_first}
 use Rattle.store_model.specs.Volumes.{is_free, is_known}
-use Rattle.txn_model.specs.declared.mark.Mark.{Mark}
-use Rattle.txn_model.specs.Values.{StoreFacts, own_of, is_own}
-use Rattle.txn_model.specs.Calls.{rivals_of}
-use Rattle.txn_state.specs.States.{IsStore}
-use Rattle.txn_log.proofs.Sharing.{among_is}
+use Rattle.txn_core.specs.txn_model.declared.mark.Mark.{Mark}
+use Rattle.txn_core.specs.txn_model.Values.{StoreFacts, own_of, is_own}
+use Rattle.txn_core.specs.txn_model.Calls.{rivals_of}
+use Rattle.txn_core.specs.txn_state.States.{IsStore}
+use Rattle.txn_core.proofs.txn_log.Sharing.{among_is}
 use Rattle.store_images.specs.Running.{IsBeside}
 
 -- ---- sectors that no page of the log has

@@ -15,15 +15,15 @@ use Rattle.log_model.specs.Logs.{is_in_grid}
 use Rattle.log_area.specs.declared.restart.SentRestart.{SentRestart}
 use Rattle.log_area.specs.Areas.{LogAreaOf, is_filling, appended}
 use Rattle.store_model.specs.Volumes.{is_free}
-use Rattle.device_blocks.specs.declared.word.CheckWord.{CheckWord}
-use Rattle.device_blocks.specs.declared.word.CheckWord.TheVariants.{Unread, Missing, Stands, Sent}
-use Rattle.txn_model.specs.Values.{StoreFacts, own_of}
-use Rattle.txn_model.specs.Pieces.{next_entry, log_with}
-use Rattle.txn_model.specs.Calls.{begun_facts, committed_facts, given_up_facts, sealed_facts, noted_facts, body_before, changed_facts, change_acts}
-use Rattle.txn_state.specs.States.{HasSize, IsStore}
-use Rattle.txn_laws.proofs.Syncs.{and_left}
-use Rattle.txn_log.specs.Laws.{IsLogged, PagesAreEnough}
-use Rattle.txn_log.proofs.Sharing.{same_self}
+use Rattle.txn_core.specs.device_blocks.declared.word.CheckWord.{CheckWord}
+use Rattle.txn_core.specs.device_blocks.declared.word.CheckWord.TheVariants.{Unread, Missing, Stands, Sent}
+use Rattle.txn_core.specs.txn_model.Values.{StoreFacts, own_of}
+use Rattle.txn_core.specs.txn_model.Pieces.{next_entry, log_with}
+use Rattle.txn_core.specs.txn_model.Calls.{begun_facts, committed_facts, given_up_facts, sealed_facts, noted_facts, body_before, changed_facts, change_acts}
+use Rattle.txn_core.specs.txn_state.States.{HasSize, IsStore}
+use Rattle.txn_core.proofs.txn_laws.Syncs.{and_left}
+use Rattle.txn_core.specs.txn_log.Laws.{IsLogged, PagesAreEnough}
+use Rattle.txn_core.proofs.txn_log.Sharing.{same_self}
 use Rattle.txn_core.specs.declared.fault.ChangeFault.{ChangeFault}
 use Rattle.txn_core.specs.Calls.{page_facts, sync_facts, out_facts, is_spelled}
 use Rattle.txn_core.specs.Changes.{HasChanged}

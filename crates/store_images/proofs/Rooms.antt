@@ -6,12 +6,12 @@ use Rattle.disk_model.specs.declared.block.Body.{Body}
 use Rattle.log_model.specs.Logs.{is_in_grid}
 use Rattle.log_area.specs.Areas.{free_pages}
 use Rattle.store_model.specs.Volumes.{is_free}
-use Rattle.txn_model.specs.Values.{StoreFacts, own_of}
-use Rattle.txn_model.specs.Calls.{body_before}
-use Rattle.txn_state.specs.States.{HasSize, IsStore}
-use Rattle.txn_laws.proofs.Syncs.{and_left}
-use Rattle.txn_log.specs.Counts.{capped}
-use Rattle.txn_log.specs.Laws.{HasRoom, PagesAreEnough}
+use Rattle.txn_core.specs.txn_model.Values.{StoreFacts, own_of}
+use Rattle.txn_core.specs.txn_model.Calls.{body_before}
+use Rattle.txn_core.specs.txn_state.States.{HasSize, IsStore}
+use Rattle.txn_core.proofs.txn_laws.Syncs.{and_left}
+use Rattle.txn_core.specs.txn_log.Counts.{capped}
+use Rattle.txn_core.specs.txn_log.Laws.{HasRoom, PagesAreEnough}
 use Rattle.store_images.specs.Running.{IsRunning, MayBegin, CanLie, MayMake, change_of, pages_of_changes}
 
 -- where no entry of the transaction is asked for, so many pages may be begun

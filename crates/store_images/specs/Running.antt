@@ -5,9 +5,9 @@ use Rattle.disk_model.specs.declared.block.Change.{Change}
 use Rattle.disk_model.specs.Sectors.{sectors, are_rivals}
 use Rattle.log_page.specs.declared.places.Extent.{Extent}
 use Rattle.store_model.specs.Volumes.{is_known}
-use Rattle.txn_model.specs.Values.{StoreFacts, own_of}
-use Rattle.txn_log.specs.Counts.{pages_needed}
-use Rattle.txn_log.specs.Laws.{HasRoom}
+use Rattle.txn_core.specs.txn_model.Values.{StoreFacts, own_of}
+use Rattle.txn_core.specs.txn_log.Counts.{pages_needed}
+use Rattle.txn_core.specs.txn_log.Laws.{HasRoom}
 use Rattle.txn_core.specs.Changes.{MayChangeNow}
 use Rattle.txn_core.specs.Turns.{HasNext}
 

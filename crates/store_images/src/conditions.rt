@@ -5,15 +5,14 @@ ghost use Rattle.disk_model.specs.declared.block.Block.{Block as BlockOf};
 ghost use Rattle.disk_model.specs.Sectors.{sectors, are_rivals};
 ghost use Rattle.log_model.specs.Logs.{is_in_grid};
 ghost use Rattle.store_model.specs.Volumes.{is_known};
-ghost use Rattle.txn_model.specs.Values.{own_of};
-ghost use Rattle.txn_model.specs.Calls.{rivals_of};
-ghost use Rattle.txn_state.specs.States.{facts_of};
+ghost use Rattle.txn_core.specs.txn_model.Values.{own_of};
+ghost use Rattle.txn_core.specs.txn_model.Calls.{rivals_of};
+ghost use Rattle.txn_core.specs.txn_state.States.{facts_of};
 ghost use Rattle.store_images.specs.Running.{IsBeside};
 
 use disk_model::{Block, BlockKind};
 use log_page::{Extent, LogPlace};
-use txn_log::{rival, rival_count};
-use txn_state::StoreState;
+use txn_core::{StoreState, rival, rival_count};
 
 // Whether the block begins where its kind may.
 pub(crate) fn is_in_grid(block: Block) -> bool

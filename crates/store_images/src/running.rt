@@ -4,9 +4,9 @@ ghost use Rattle.disk_model.specs.declared.block.Block.{Block as BlockOf};
 ghost use Rattle.disk_model.specs.Sectors.{sectors, are_rivals};
 ghost use Rattle.log_model.specs.Logs.{is_in_grid};
 ghost use Rattle.store_model.specs.Volumes.{is_known};
-ghost use Rattle.txn_log.specs.Counts.{capped};
-ghost use Rattle.txn_model.specs.Values.{own_of};
-ghost use Rattle.txn_state.specs.States.{facts_of};
+ghost use Rattle.txn_core.specs.txn_log.Counts.{capped};
+ghost use Rattle.txn_core.specs.txn_model.Values.{own_of};
+ghost use Rattle.txn_core.specs.txn_state.States.{facts_of};
 ghost use Rattle.txn_core.specs.Steps.{MayTurn};
 ghost use Rattle.store_images.specs.Running.{IsRunning, MayBegin, MayMake, MayGoOn, change_of, pages_of_changes, CanLie};
 
@@ -23,9 +23,7 @@ use log_reading::is_ring_place;
 use sector_device::{Device, MemoryDevice};
 use std::alloc::{AllocError, Global};
 use std::marker::Model;
-use txn_core::{ChangeFault, Store, open_log, steps_lead_on};
-use txn_log::pages_are_enough;
-use txn_state::StoreState;
+use txn_core::{ChangeFault, Store, StoreState, open_log, pages_are_enough, steps_lead_on};
 
 /// A store on a device in memory.
 #[derive(Drop)]
@@ -36,7 +34,7 @@ pub struct Run {
 }
 
 impl Model for Run {
-    ghost use Rattle.txn_state.specs.States.{StateOf, facts_of};
+    ghost use Rattle.txn_core.specs.txn_state.States.{StateOf, facts_of};
     ghost use Rattle.store_images.specs.Running.{IsRunning};
 
     ghost Value = { StateOf };

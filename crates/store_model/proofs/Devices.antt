@@ -2,11 +2,11 @@
 use Rattle.std.proofs.Common.{◌≡◌, ◌⊎◌, inl, inr, ⊎_elim, ℕ, zero, suc, ◌+◌, ◌-◌, ◌*◌, ◌^◌, ◌<◌, Bool, true, false, List, [], ◌∷◌, ◌++◌, length, get_or, refl, sym, ◌∙◌, ap, subst, arith}
 use Rattle.std.specs.Prelude.{if◌then◌else◌, Contains, slice_index}
 use Rattle.std.proofs.lemmas.List.{take_all}
-use Rattle.disk_model.specs.declared.block.Block.{Block}
-use Rattle.disk_model.specs.declared.block.Body.{Body}
-use Rattle.disk_model.specs.declared.block.BlockKind.{BlockKind}
-use Rattle.disk_model.specs.Sectors.{sector_of, sectors, raw_from}
-use Rattle.disk_model.specs.Content.{content_of, body_of, plain_body}
+use Rattle.log_model.specs.disk_model.declared.block.Block.{Block}
+use Rattle.log_model.specs.disk_model.declared.block.Body.{Body}
+use Rattle.log_model.specs.disk_model.declared.block.BlockKind.{BlockKind}
+use Rattle.log_model.specs.disk_model.Sectors.{sector_of, sectors, raw_from}
+use Rattle.log_model.specs.disk_model.Content.{content_of, body_of, plain_body}
 use Rattle.fixup_record.specs.Spellings.{is_sequenced, spelled}
 use Rattle.fixup_record.proofs.Protected.{length-protected}
 use Rattle.fixup_record.proofs.Spelled.{read_spelled, tested}

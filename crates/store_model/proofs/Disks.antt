@@ -1,7 +1,7 @@
 -- What a write and a sync make of the images.
 use Rattle.std.proofs.Common.{◌≡◌, ◌⊎◌, inl, inr, ⊎_elim, ℕ, Bool, true, false, List, [], ◌∷◌, refl, sym, ◌∙◌, subst, arith}
 use Rattle.std.specs.Prelude.{if◌then◌else◌, Contains}
-use Rattle.disk_model.specs.declared.block.Block.{Block}
+use Rattle.log_model.specs.disk_model.declared.block.Block.{Block}
 use Rattle.sector_device.specs.Disks.{Disk, newest, seen, settled}
 use Rattle.store_model.specs.Geometry.{SectorBytes, Geometry, CanLeave, Puts, PutsAll, AreApart}
 

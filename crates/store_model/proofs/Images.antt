@@ -4,10 +4,10 @@ use Rattle.std.specs.Prelude.{unwrap_or, find, All}
 use Rattle.std.specs.List.{AllByRecursion}
 use Rattle.std.specs.Option.{option_map}
 use Rattle.std.proofs.lemmas.List.Elements.{All-from_recursion}
-use Rattle.disk_model.specs.declared.block.Block.{Block}
-use Rattle.disk_model.specs.declared.block.BlockKind.TheVariants.{Plain}
-use Rattle.disk_model.specs.Sectors.{same_kind}
-use Rattle.disk_model.specs.Content.{Content, content_of}
+use Rattle.log_model.specs.disk_model.declared.block.Block.{Block}
+use Rattle.log_model.specs.disk_model.declared.block.BlockKind.TheVariants.{Plain}
+use Rattle.log_model.specs.disk_model.Sectors.{same_kind}
+use Rattle.log_model.specs.disk_model.Content.{Content, content_of}
 use Rattle.log_model.specs.declared.entry.Entry.{Entry}
 use Rattle.log_model.specs.declared.entry.Act.{Act}
 use Rattle.log_model.specs.declared.entry.Act.TheVariants.{Update, Commit}

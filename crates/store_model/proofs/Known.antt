@@ -2,13 +2,13 @@
 use Rattle.std.proofs.Common.{◌≡◌, ℕ, ◌+◌, ◌*◌, ◌%◌, ◌<◌, ◌≤◌, Bool, true, false, refl, sym, ◌∙◌, ap, subst, arith}
 use Rattle.std.specs.Prelude.{◌&&◌, ◌==◌, not, nat_le, nat_lt, if◌then◌else◌, slice_index}
 use Rattle.std.proofs.lemmas.Bool.{ltb-true, leb-true, le-leb, lt-ltb, eqb-true, eq-eqb, and_parts, and_from}
-use Rattle.disk_model.specs.declared.block.Block.{Block}
-use Rattle.disk_model.specs.declared.block.Body.{Body}
-use Rattle.disk_model.specs.declared.block.BlockKind.{BlockKind}
-use Rattle.disk_model.specs.declared.block.BlockKind.TheVariants.{Plain, FileRec, Index}
-use Rattle.disk_model.specs.Sectors.{sectors, same_kind, same_block, are_rivals, overlap}
-use Rattle.disk_model.specs.Content.{content_of, body_of}
-use Rattle.disk_model.proofs.Frames.{raw_frame}
+use Rattle.log_model.specs.disk_model.declared.block.Block.{Block}
+use Rattle.log_model.specs.disk_model.declared.block.Body.{Body}
+use Rattle.log_model.specs.disk_model.declared.block.BlockKind.{BlockKind}
+use Rattle.log_model.specs.disk_model.declared.block.BlockKind.TheVariants.{Plain, FileRec, Index}
+use Rattle.log_model.specs.disk_model.Sectors.{sectors, same_kind, same_block, are_rivals, overlap}
+use Rattle.log_model.specs.disk_model.Content.{content_of, body_of}
+use Rattle.fixup_record.proofs.disk_model.Frames.{raw_frame}
 use Rattle.log_model.specs.Logs.{may_begin, is_in_grid}
 use Rattle.sector_device.specs.Disks.{is_within}
 use Rattle.store_model.specs.Geometry.{SectorBytes}

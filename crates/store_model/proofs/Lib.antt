@@ -1,3 +1,7 @@
+pub use Rattle.fixup_record.proofs as fixup_record
+pub use Rattle.fixup_record.proofs.disk_model
+pub use Rattle.log_model.proofs as log_model
+pub use Rattle.sector_device.proofs as sector_device
 pub mod Told
 pub mod Lost
 pub mod Window

@@ -3,12 +3,12 @@ use Rattle.std.proofs.Common.{◌≡◌, ℕ, ◌+◌, ◌*◌, ◌<◌, ◌≤�
 use Rattle.std.specs.Prelude.{unwrap_or, if◌then◌else◌}
 use Rattle.std.proofs.lemmas.List.{ext_get_or}
 use mathlib.Core.Path.{fun_ext}
-use Rattle.disk_model.specs.declared.block.Block.{Block}
-use Rattle.disk_model.specs.declared.block.Body.{Body}
-use Rattle.disk_model.specs.Sectors.{sectors, same_block, are_rivals}
-use Rattle.disk_model.specs.Content.{content_of}
-use Rattle.disk_model.specs.Writes.{overlay, bytes_after}
-use Rattle.disk_model.proofs.Frames.{byte_after, length-bytes_after}
+use Rattle.log_model.specs.disk_model.declared.block.Block.{Block}
+use Rattle.log_model.specs.disk_model.declared.block.Body.{Body}
+use Rattle.log_model.specs.disk_model.Sectors.{sectors, same_block, are_rivals}
+use Rattle.log_model.specs.disk_model.Content.{content_of}
+use Rattle.log_model.specs.disk_model.Writes.{overlay, bytes_after}
+use Rattle.fixup_record.proofs.disk_model.Frames.{byte_after, length-bytes_after}
 use Rattle.sector_device.specs.Disks.{Disk, seen}
 use Rattle.log_model.specs.declared.entry.Entry.{Entry}
 use Rattle.log_model.specs.Logs.{covers, redo_byte, last_redo, redos}

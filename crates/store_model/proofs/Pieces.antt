@@ -4,9 +4,9 @@ use Rattle.std.specs.Prelude.{◌||◌, ◌==◌}
 use Rattle.std.specs.List.{AllByRecursion}
 use Rattle.std.proofs.lemmas.List.{append-nil}
 use mathlib.Core.Path.{fun_ext}
-use Rattle.disk_model.specs.declared.block.Block.{Block}
-use Rattle.disk_model.specs.Sectors.{same_block}
-use Rattle.disk_model.proofs.Frames.{same_block-is}
+use Rattle.log_model.specs.disk_model.declared.block.Block.{Block}
+use Rattle.log_model.specs.disk_model.Sectors.{same_block}
+use Rattle.fixup_record.proofs.disk_model.Frames.{same_block-is}
 use Rattle.sector_device.specs.Disks.{Disk, seen}
 use Rattle.log_model.specs.declared.entry.Entry.{Entry}
 use Rattle.log_model.specs.Logs.{updates, covers, is_ended, first_undo, last_said}

@@ -1,9 +1,9 @@
 -- The laws of a store, in the words of contents.
 use Rattle.std.proofs.Common.{◌≡◌, ◌≢◌, ◌⊎◌, inl, inr, ℕ, ◌<◌, ◌≤◌, Bool, true, false, List, [], ◌∷◌, ◌++◌, length, drop, Some, None, sym, ◌∙◌, arith}
 use Rattle.std.specs.Prelude.{All}
-use Rattle.disk_model.specs.declared.block.Block.{Block}
-use Rattle.disk_model.specs.Sectors.{are_rivals}
-use Rattle.disk_model.specs.Content.{Content}
+use Rattle.log_model.specs.disk_model.declared.block.Block.{Block}
+use Rattle.log_model.specs.disk_model.Sectors.{are_rivals}
+use Rattle.log_model.specs.disk_model.Content.{Content}
 use Rattle.sector_device.specs.Disks.{Disk}
 use Rattle.log_model.specs.declared.entry.Entry.{Entry}
 use Rattle.log_model.specs.Logs.{covers, undo_byte, IsLevel, first_undo}

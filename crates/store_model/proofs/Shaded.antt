@@ -1,9 +1,9 @@
 -- Of two rivals one at most is held, and its last update stands behind the other's.
 use Rattle.std.proofs.Common.{◌≡◌, ◌⊎◌, inl, inr, ⊎_elim, ℕ, ◌<◌, Bool, true, false, List, [], ◌∷◌, ◌++◌, refl, sym, ◌∙◌, ap, subst}
 use Rattle.std.specs.Prelude.{◌||◌, ◌&&◌, not}
-use Rattle.disk_model.specs.declared.block.Block.{Block}
-use Rattle.disk_model.specs.Sectors.{same_block, are_rivals}
-use Rattle.disk_model.proofs.Frames.{same_block-is}
+use Rattle.log_model.specs.disk_model.declared.block.Block.{Block}
+use Rattle.log_model.specs.disk_model.Sectors.{same_block, are_rivals}
+use Rattle.fixup_record.proofs.disk_model.Frames.{same_block-is}
 use Rattle.log_model.specs.declared.entry.Entry.{Entry}
 use Rattle.store_model.specs.Logs.{AreUpdates, commit_by, has_update, is_behind, IsOusted}
 use Rattle.store_model.specs.Geometry.{Geometry}

@@ -1,7 +1,7 @@
 -- A recovery that is stopped and begun again, any number of times.
 use Rattle.std.proofs.Common.{◌≡◌, ◌⊎◌, inl, inr, ⊎_elim, ℕ, Bool, List, [], refl, sym, ◌∙◌, ap, subst, arith}
 use Rattle.std.specs.Prelude.{Contains}
-use Rattle.disk_model.specs.declared.block.Block.{Block}
+use Rattle.log_model.specs.disk_model.declared.block.Block.{Block}
 use Rattle.sector_device.specs.Disks.{seen}
 use Rattle.log_model.specs.declared.entry.Entry.{Entry}
 use Rattle.store_model.specs.Logs.{AllBytes, IsClaimed, has_update}

@@ -6,10 +6,10 @@ use Rattle.std.specs.Cmp.Lexicographic.{pointwise}
 use Rattle.std.proofs.lemmas.Bool.{and_parts, eq-eqb}
 use Rattle.std.proofs.lemmas.List.{ext_get_or}
 use Rattle.std.proofs.lemmas.List.FromFn.{length-map-range_with_len, get_or-map-range_with_len}
-use Rattle.disk_model.specs.declared.block.Block.{Block}
-use Rattle.disk_model.specs.Sectors.{sectors, raw_from}
-use Rattle.disk_model.specs.Content.{Content, content_of}
-use Rattle.disk_model.proofs.Sectors.{length-body_of, length-raw_from}
+use Rattle.log_model.specs.disk_model.declared.block.Block.{Block}
+use Rattle.log_model.specs.disk_model.Sectors.{sectors, raw_from}
+use Rattle.log_model.specs.disk_model.Content.{Content, content_of}
+use Rattle.fixup_record.proofs.disk_model.Sectors.{length-body_of, length-raw_from}
 use Rattle.fixup_record.specs.Spellings.{has_spelling}
 use Rattle.sector_device.specs.Disks.{Disk, is_within}
 use Rattle.log_model.specs.declared.entry.Entry.{Entry}

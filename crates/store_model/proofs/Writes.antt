@@ -5,11 +5,11 @@ use Rattle.std.specs.List.{list_any, list_all, range_with_len, AllByRecursion}
 use Rattle.std.specs.Cmp.Lexicographic.{pointwise}
 use Rattle.std.proofs.lemmas.Bool.{eqb-true, and_parts, and_from}
 use Rattle.std.proofs.lemmas.List.Elements.{All-from_recursion}
-use Rattle.disk_model.specs.declared.block.Block.{Block}
-use Rattle.disk_model.specs.declared.block.BlockKind.{BlockKind}
-use Rattle.disk_model.specs.declared.block.BlockKind.TheVariants.{Plain, FileRec, Index}
-use Rattle.disk_model.specs.Sectors.{sectors, same_kind}
-use Rattle.disk_model.specs.Content.{Content, content_of}
+use Rattle.log_model.specs.disk_model.declared.block.Block.{Block}
+use Rattle.log_model.specs.disk_model.declared.block.BlockKind.{BlockKind}
+use Rattle.log_model.specs.disk_model.declared.block.BlockKind.TheVariants.{Plain, FileRec, Index}
+use Rattle.log_model.specs.disk_model.Sectors.{sectors, same_kind}
+use Rattle.log_model.specs.disk_model.Content.{Content, content_of}
 use Rattle.fixup_record.specs.Spellings.{has_spelling}
 use Rattle.log_model.specs.declared.entry.Entry.{Entry}
 use Rattle.log_model.specs.Logs.{recovered, IsLevel, updates, covers, undo_byte, is_ended, first_undo, told, last_said, is_shadowed, is_covered_whole, is_other, is_partial, is_written_out}

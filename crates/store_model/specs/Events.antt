@@ -1,7 +1,7 @@
 -- The events of a store.
 use Rattle.std.specs.Prelude.{Contains, ◌≡◌, ◌≢◌, ◌<◌, ◌≤◌, ℕ, zero, suc, ◌-◌, max, ◌&&◌, ◌||◌, Bool, true, false, not, if◌then◌else◌, List, [], ◌∷◌, ◌++◌, length, take, drop, Some, None}
-use Rattle.disk_model.specs.declared.block.Block.{Block}
-use Rattle.disk_model.specs.Sectors.{same_block, are_rivals}
+use Rattle.log_model.specs.disk_model.declared.block.Block.{Block}
+use Rattle.log_model.specs.disk_model.Sectors.{same_block, are_rivals}
 use Rattle.sector_device.specs.Disks.{Disk, seen, settled}
 use Rattle.log_model.specs.declared.entry.Entry.{Entry}
 use Rattle.log_model.specs.Logs.{covers, undo_byte, first_undo, last_said}

@@ -1,7 +1,7 @@
 -- How the blocks of a store lie on the sectors of its disk, and what a write puts there.
 use Rattle.std.specs.Prelude.{◌≡◌, ◌⊎◌, ◌<◌, ℕ, List, ◌∷◌, Bool, true, false}
-use Rattle.disk_model.specs.declared.block.Block.{Block}
-use Rattle.disk_model.specs.Sectors.{same_block, are_rivals}
+use Rattle.log_model.specs.disk_model.declared.block.Block.{Block}
+use Rattle.log_model.specs.disk_model.Sectors.{same_block, are_rivals}
 use Rattle.sector_device.specs.Disks.{Disk, MayHold}
 use Rattle.store_model.specs.Logs.{BodyBytes, AllBytes}
 

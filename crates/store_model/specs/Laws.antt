@@ -1,9 +1,9 @@
 -- The laws of a store.
 use Rattle.std.specs.Prelude.{◌≡◌, ◌≢◌, ◌⊎◌, ◌↔◌, ◌<◌, ◌≤◌, ℕ, ◌+◌, ◌-◌, ◌^◌, Bool, true, false, List, [], ◌∷◌, length, take, Option, Some, None}
-use Rattle.disk_model.specs.declared.block.Block.{Block}
-use Rattle.disk_model.specs.Sectors.{sectors, are_rivals}
-use Rattle.disk_model.specs.Content.{Content, content_of}
-use Rattle.disk_model.specs.Writes.{overlay}
+use Rattle.log_model.specs.disk_model.declared.block.Block.{Block}
+use Rattle.log_model.specs.disk_model.Sectors.{sectors, are_rivals}
+use Rattle.log_model.specs.disk_model.Content.{Content, content_of}
+use Rattle.log_model.specs.disk_model.Writes.{overlay}
 use Rattle.fixup_record.specs.Spellings.{has_spelling}
 use Rattle.sector_device.specs.Disks.{Disk, seen, put, is_within, IsBetween, IsSettled}
 use Rattle.log_model.specs.declared.entry.Entry.{Entry}

@@ -1,7 +1,7 @@
 -- Lists of entries of the log, as a store appends them: which blocks they update, and what undoes them.
 use Rattle.std.specs.Prelude.{◌≡◌, ◌≢◌, ℕ, zero, suc, ◌+◌, ◌==◌, ◌&&◌, ◌||◌, Bool, true, false, not, if◌then◌else◌, List, [], ◌∷◌, Option, Some, None, unwrap_or}
 use Rattle.std.specs.List.{list_any, AllByRecursion}
-use Rattle.disk_model.specs.declared.block.Block.{Block}
+use Rattle.log_model.specs.disk_model.declared.block.Block.{Block}
 use Rattle.log_model.specs.declared.entry.Entry.{Entry}
 use Rattle.log_model.specs.declared.entry.Act.{Act}
 use Rattle.log_model.specs.declared.entry.Act.TheVariants.{Update, Commit}

@@ -1,6 +1,6 @@
 -- A list of entries from a later place on.
 use Rattle.std.specs.Prelude.{◌≡◌, ℕ, true, List, ◌∷◌, ◌++◌, Some, None}
-use Rattle.disk_model.specs.declared.block.Block.{Block}
+use Rattle.log_model.specs.disk_model.declared.block.Block.{Block}
 use Rattle.log_model.specs.declared.entry.Entry.{Entry}
 use Rattle.log_model.specs.Logs.{covers, undo_byte, is_ended, last_redo, first_undo, told}
 use Rattle.log_model.specs.StoreLaws.{is_named}

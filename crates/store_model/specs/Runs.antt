@@ -1,7 +1,7 @@
 -- Runs of a store, and what a crash at any moment of them leaves.
 use Rattle.std.specs.Prelude.{◌≡◌, ◌⊎◌, ◌<◌, ◌≤◌, ℕ, ◌+◌, [], length, Bool, false}
-use Rattle.disk_model.specs.declared.block.Block.{Block}
-use Rattle.disk_model.specs.Sectors.{same_block, are_rivals}
+use Rattle.log_model.specs.disk_model.declared.block.Block.{Block}
+use Rattle.log_model.specs.disk_model.Sectors.{same_block, are_rivals}
 use Rattle.sector_device.specs.Disks.{Disk}
 use Rattle.store_model.specs.Logs.{AllBytes, has_update}
 use Rattle.store_model.specs.Geometry.{SectorBytes, Geometry, CanLeave, Shows}

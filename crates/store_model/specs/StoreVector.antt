@@ -1,9 +1,9 @@
 -- Small stores of plain blocks of one byte, and of file records around them.
 use Rattle.std.specs.Prelude.{◌≡◌, ℕ, [], ◌∷◌, List, length, slice_index, true, false, Some, None}
-use Rattle.disk_model.specs.declared.block.Block.{Block}
-use Rattle.disk_model.specs.declared.block.BlockKind.TheVariants.{Plain, FileRec, Index}
-use Rattle.disk_model.specs.Sectors.{same_block}
-use Rattle.disk_model.specs.Content.{Content}
+use Rattle.log_model.specs.disk_model.declared.block.Block.{Block}
+use Rattle.log_model.specs.disk_model.declared.block.BlockKind.TheVariants.{Plain, FileRec, Index}
+use Rattle.log_model.specs.disk_model.Sectors.{same_block}
+use Rattle.log_model.specs.disk_model.Content.{Content}
 use Rattle.sector_device.specs.Disks.{Disk}
 use Rattle.log_model.specs.declared.entry.Entry.{Entry}
 use Rattle.log_model.specs.declared.entry.Act.TheVariants.{Update}

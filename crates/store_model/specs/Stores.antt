@@ -1,8 +1,8 @@
 -- The store as a pure machine: what it knows, what a crash may leave, and the facts that it keeps.
 use Rattle.std.specs.Prelude.{◌≡◌, ◌≢◌, ◌⊎◌, ◌<◌, ◌≤◌, ℕ, ◌-◌, ◌||◌, Bool, true, false, List, [], length, take, drop, Some, None, unwrap_or}
 use Rattle.std.specs.List.{AllByRecursion}
-use Rattle.disk_model.specs.declared.block.Block.{Block}
-use Rattle.disk_model.specs.Sectors.{are_rivals}
+use Rattle.log_model.specs.disk_model.declared.block.Block.{Block}
+use Rattle.log_model.specs.disk_model.Sectors.{are_rivals}
 use Rattle.sector_device.specs.Disks.{Disk, seen}
 use Rattle.log_model.specs.declared.entry.Entry.{Entry}
 use Rattle.log_model.specs.Logs.{updates, IsLevel, is_ended, first_undo, told, last_said}

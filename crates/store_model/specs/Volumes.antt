@@ -1,10 +1,10 @@
 -- A store on the disk of a volume: which blocks it knows, and its window and its recovery in the words of blocks and contents.
 use Rattle.std.specs.Prelude.{◌≡◌, ℕ, ◌-◌, ◌*◌, ◌&&◌, not, Bool, true, false, if◌then◌else◌, List, length, map, slice_index}
 use Rattle.std.specs.List.{list_all, range_with_len}
-use Rattle.disk_model.specs.declared.block.Block.{Block}
-use Rattle.disk_model.specs.declared.block.BlockKind.{BlockKind}
-use Rattle.disk_model.specs.Sectors.{sectors, sector_of}
-use Rattle.disk_model.specs.Content.{Content, content_of}
+use Rattle.log_model.specs.disk_model.declared.block.Block.{Block}
+use Rattle.log_model.specs.disk_model.declared.block.BlockKind.{BlockKind}
+use Rattle.log_model.specs.disk_model.Sectors.{sectors, sector_of}
+use Rattle.log_model.specs.disk_model.Content.{Content, content_of}
 use Rattle.fixup_record.specs.Spellings.{has_spelling, spelled}
 use Rattle.sector_device.specs.Sectors.{sectors_of}
 use Rattle.sector_device.specs.Disks.{Disk, is_within}

@@ -3,15 +3,15 @@ use Rattle.std.proofs.Common.{◌≡◌, ℕ, suc, ◌+◌, Bool, true, false, c
 use Rattle.std.specs.Prelude.{is_some, IsSome}
 use Rattle.std.proofs.Math.Path.{fun_ext}
 use Rattle.std.specs.Option.{option_map, option_or}
-use Rattle.disk_model.specs.declared.block.Block.{Block}
-use Rattle.disk_model.specs.declared.block.Body.{Body}
-use Rattle.disk_model.specs.Sectors.{same_block}
-use Rattle.disk_model.proofs.Frames.{same_block-is}
+use Rattle.txn_model.specs.disk_model.declared.block.Block.{Block}
+use Rattle.txn_model.specs.disk_model.declared.block.Body.{Body}
+use Rattle.txn_model.specs.disk_model.Sectors.{same_block}
+use Rattle.txn_model.proofs.disk_model.Frames.{same_block-is}
 use Rattle.std.specs.Cmp.{unsigned_tied}
 use Rattle.std.proofs.lemmas.Bool.Decides.{nat_tests}
-use Rattle.block_pool.specs.Numbers.{block_number}
-use Rattle.block_pool.specs.Pools.{held, with_block}
-use Rattle.block_pool.proofs.Ordering.{order_equal}
+use Rattle.txn_model.specs.block_pool.Numbers.{block_number}
+use Rattle.txn_model.specs.block_pool.Pools.{held, with_block}
+use Rattle.txn_model.proofs.block_pool.Ordering.{order_equal}
 use Rattle.txn_model.specs.declared.mark.Mark.{Mark}
 use Rattle.txn_model.specs.Values.{no_mark}
 use Rattle.store_pools.specs.declared.kept.KeptBody.{KeptBody}

@@ -2,10 +2,10 @@
 use Rattle.std.proofs.Common.{◌≡◌, Bool, true, false, cond, List, Option, Some, None, refl, ap, ◌∙◌}
 use Rattle.std.specs.Prelude.{is_some, unwrap_or}
 use Rattle.std.specs.Option.{option_map}
-use Rattle.disk_model.specs.declared.block.Block.{Block}
-use Rattle.disk_model.specs.Sectors.{same_block}
-use Rattle.block_pool.specs.Pools.{held, with_block, without_block}
-use Rattle.block_pool.proofs.LookUps.{looks_up}
+use Rattle.txn_model.specs.disk_model.declared.block.Block.{Block}
+use Rattle.txn_model.specs.disk_model.Sectors.{same_block}
+use Rattle.txn_model.specs.block_pool.Pools.{held, with_block, without_block}
+use Rattle.txn_model.proofs.block_pool.LookUps.{looks_up}
 use Rattle.txn_model.specs.declared.mark.Mark.{Mark}
 use Rattle.txn_model.specs.Values.{no_mark}
 use Rattle.store_pools.specs.declared.kept.KeptBody.{KeptBody}

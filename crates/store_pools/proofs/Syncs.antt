@@ -3,9 +3,9 @@ use Rattle.std.proofs.Common.{◌≡◌, ℕ, Bool, true, false, not, cond, List
 use Rattle.std.specs.Prelude.{is_some, unwrap_or, ◌↔◌}
 use Rattle.std.proofs.Math.Path.{fun_ext}
 use Rattle.std.specs.Option.{option_map}
-use Rattle.disk_model.specs.declared.block.Block.{Block}
-use Rattle.block_pool.specs.Pools.{held, kept_blocks, turned_values, passes}
-use Rattle.block_pool.proofs.LookUps.{looks_up}
+use Rattle.txn_model.specs.disk_model.declared.block.Block.{Block}
+use Rattle.txn_model.specs.block_pool.Pools.{held, kept_blocks, turned_values, passes}
+use Rattle.txn_model.proofs.block_pool.LookUps.{looks_up}
 use Rattle.txn_model.specs.declared.mark.Mark.{Mark}
 use Rattle.txn_model.specs.Values.{no_mark}
 use Rattle.txn_model.specs.Calls.{is_buried, synced_mark}

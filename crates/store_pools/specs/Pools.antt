@@ -1,9 +1,9 @@
 -- What a store has of blocks: the bodies that it keeps, and what is marked of each.
 use Rattle.std.specs.Prelude.{List, Option, unwrap_or}
 use Rattle.std.specs.Option.{option_map}
-use Rattle.disk_model.specs.declared.block.Block.{Block}
-use Rattle.disk_model.specs.declared.block.Body.{Body}
-use Rattle.block_pool.specs.Pools.{held}
+use Rattle.txn_model.specs.disk_model.declared.block.Block.{Block}
+use Rattle.txn_model.specs.disk_model.declared.block.Body.{Body}
+use Rattle.txn_model.specs.block_pool.Pools.{held}
 use Rattle.txn_model.specs.declared.mark.Mark.{Mark}
 use Rattle.txn_model.specs.Values.{no_mark}
 use Rattle.store_pools.specs.declared.kept.KeptBody.{KeptBody}

@@ -1,16 +1,14 @@
 //! The ends of transactions.
 ghost use Rattle.std.specs.Prelude.{◌≡◌, true, false, [], IsSome};
 ghost use Rattle.std.specs.Option.{option_or};
-ghost use Rattle.disk_model.specs.declared.block.Block.{Block as BlockOf};
-ghost use Rattle.block_pool.specs.Pools.{held, with_block};
+ghost use Rattle.txn_model.specs.disk_model.declared.block.Block.{Block as BlockOf};
+ghost use Rattle.txn_model.specs.block_pool.Pools.{held, with_block};
 ghost use Rattle.txn_model.specs.Calls.{committed_marks, given_up_marks};
 ghost use Rattle.store_pools.specs.Pools.{bodies_of, marks_of};
 
 use crate::kept::KeptBody;
 use crate::mark::{committed, given_up};
-use block_pool::Pool;
-use disk_model::Block;
-use txn_model::Mark;
+use txn_model::{Block, Mark, Pool};
 
 // The block, which has a mark, bears a commit of this number.
 fn mark_commit(marks: &mut Pool<Mark>, block: Block, number: u64)

@@ -13,4 +13,6 @@ pub use ending::{mark_commits, restore};
 pub use kept::KeptBody;
 pub use mark::{changed, ousted};
 pub use syncing::settle;
-pub use txn_model::Mark;
+pub use txn_model::{
+    Act, Block, BlockKind, Change, Device, Entry, LogArea, LogPlace, Mark, Pool, Turns, put_bytes,
+};

@@ -4,8 +4,7 @@ ghost use Rattle.txn_model.specs.Calls.{is_buried, synced_mark};
 ghost use Rattle.store_pools.specs.Pools.{bodies_of, marks_of};
 
 use crate::kept::KeptBody;
-use block_pool::{Pool, Tests, Turns};
-use txn_model::Mark;
+use txn_model::{Mark, Pool, Tests, Turns};
 
 // A sync by which the pages of the log before this one are durable.
 #[derive(Clone, Copy, Drop)]

@@ -3,10 +3,10 @@ use Rattle.std.proofs.Common.{◌≡◌, ℕ, ◌*◌, ◌/◌, ◌%◌, ◌<◌
 use Rattle.std.specs.Prelude.{unwrap_or}
 use Rattle.std.proofs.lemmas.Bool.{cases_lt}
 use Rattle.std.proofs.lemmas.List.{get_or_past}
-use Rattle.disk_model.specs.Content.{Content}
-use Rattle.bit_set.specs.Bits.{bit}
-use Rattle.bit_set.specs.Words.{is_one, byte_bit, bits_of_bytes}
-use Rattle.bit_set.proofs.Views.{length-bits_of_bytes, bit-bits_of_bytes}
+use Rattle.volume_model.specs.disk_model.Content.{Content}
+use Rattle.volume_model.specs.bit_set.Bits.{bit}
+use Rattle.volume_model.specs.bit_set.Words.{is_one, byte_bit, bits_of_bytes}
+use Rattle.volume_model.proofs.bit_set.Views.{length-bits_of_bytes, bit-bits_of_bytes}
 use Rattle.volume_model.specs.Volumes.{Volume, count_of, bytes_or, size_or, cluster_bitmap, record_bitmap, cluster_bits, record_bits}
 use Rattle.stream_laws.specs.Puts.{Put, all_put}
 use Rattle.stream_laws.specs.Growth.{put_byte, filled}

@@ -4,20 +4,20 @@ use Rattle.std.specs.Prelude.{unwrap_or}
 use Rattle.std.proofs.lemmas.Bool.{cases_lt, lt-ltb, le-ltb, and_from, false_from_ne_true}
 use Rattle.std.proofs.lemmas.List.{get_or_past}
 use Rattle.std.proofs.lemmas.List.FromFn.{length-map-range_with_len, get_or-map-range_with_len}
-use Rattle.disk_model.specs.declared.block.Block.{Block}
-use Rattle.disk_model.specs.declared.block.BlockKind.{BlockKind}
-use Rattle.disk_model.specs.declared.block.BlockKind.TheVariants.{Plain, FileRec, Index}
-use Rattle.disk_model.specs.Sectors.{sectors, same_block, overlap}
-use Rattle.disk_model.specs.Content.{Content, HasSizes}
-use Rattle.disk_model.specs.Writes.{Write, overlay}
-use Rattle.disk_model.specs.Laws.{IsElsewhere}
-use Rattle.disk_model.proofs.Frames.{same_block-is, byte_after, bytes_elsewhere, overlay_elsewhere}
-use Rattle.record_model.specs.Records.{Record}
-use Rattle.state_model.specs.declared.stream.Extents.{Extents}
-use Rattle.state_model.specs.declared.stream.Stream.{Stream}
-use Rattle.state_model.specs.declared.stream.Stream.TheVariants.{Held, Placed}
-use Rattle.state_model.specs.Streams.{block_at, sector_bytes, byte_at, extent_bytes}
-use Rattle.state_model.specs.Loads.{table_slot, records_of}
+use Rattle.volume_model.specs.disk_model.declared.block.Block.{Block}
+use Rattle.volume_model.specs.disk_model.declared.block.BlockKind.{BlockKind}
+use Rattle.volume_model.specs.disk_model.declared.block.BlockKind.TheVariants.{Plain, FileRec, Index}
+use Rattle.volume_model.specs.disk_model.Sectors.{sectors, same_block, overlap}
+use Rattle.volume_model.specs.disk_model.Content.{Content, HasSizes}
+use Rattle.volume_model.specs.disk_model.Writes.{Write, overlay}
+use Rattle.volume_model.specs.disk_model.Laws.{IsElsewhere}
+use Rattle.volume_model.proofs.disk_model.Frames.{same_block-is, byte_after, bytes_elsewhere, overlay_elsewhere}
+use Rattle.volume_model.specs.record_model.Records.{Record}
+use Rattle.volume_model.specs.state_model.declared.stream.Extents.{Extents}
+use Rattle.volume_model.specs.state_model.declared.stream.Stream.{Stream}
+use Rattle.volume_model.specs.state_model.declared.stream.Stream.TheVariants.{Held, Placed}
+use Rattle.volume_model.specs.state_model.Streams.{block_at, sector_bytes, byte_at, extent_bytes}
+use Rattle.volume_model.specs.state_model.Loads.{table_slot, records_of}
 use Rattle.volume_model.specs.Volumes.{Volume, bytes_or, record_bytes, is_in_use}
 use Rattle.volume_model.specs.Indexes.{index_block, index_stream, index_links}
 use Rattle.stream_laws.specs.Frames.{SameBytesInSome, SameRecordIn, SameIndexIn}

@@ -4,11 +4,11 @@ use Rattle.std.specs.List.{sum_by, AllByRecursion}
 use Rattle.std.proofs.Math.ListN.{length-set}
 use Rattle.std.proofs.lemmas.List.{get_or-set_same, get_or-set_other}
 use Rattle.std.proofs.lemmas.List.Sums.{sum_by-cons, sum_by-set}
-use Rattle.host_base.specs.declared.file_ref.FileRef.{FileRef}
-use Rattle.record_model.specs.Records.{Record}
-use Rattle.state_model.specs.Files.{only_base, file_at, file_links, links_at}
-use Rattle.state_model.specs.Loads.{table_in}
-use Rattle.state_model.specs.Rules.{count_in, names_in}
+use Rattle.volume_model.specs.host_base.declared.file_ref.FileRef.{FileRef}
+use Rattle.volume_model.specs.record_model.Records.{Record}
+use Rattle.volume_model.specs.state_model.Files.{only_base, file_at, file_links, links_at}
+use Rattle.volume_model.specs.state_model.Loads.{table_in}
+use Rattle.volume_model.specs.state_model.Rules.{count_in, names_in}
 use Rattle.volume_model.specs.Owners.{volume_runs, uses}
 use Rattle.stream_laws.specs.Replacing.{FileEdit, with_edits, LeaveNumber, AreEdits, clusters_lost, clusters_gained, names_lost, names_gained}
 use Rattle.stream_laws.proofs.Sharing.{file_uses, volume_sum}

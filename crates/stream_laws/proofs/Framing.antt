@@ -6,21 +6,21 @@ use Rattle.std.specs.List.{range_with_len}
 use Rattle.std.proofs.lemmas.Bool.{leb-false, cases_lt, le-ltb, le-leb}
 use Rattle.std.proofs.lemmas.Option.{slice_get_within, get_or_from_slice_get}
 use Rattle.std.proofs.lemmas.List.FromFn.{length-map-range_with_len, get_or-map-range_with_len}
-use Rattle.disk_model.specs.declared.block.Block.{Block}
-use Rattle.disk_model.specs.declared.block.Body.{Body}
-use Rattle.disk_model.specs.declared.block.BlockKind.TheVariants.{Plain, FileRec}
-use Rattle.disk_model.specs.Content.{Content}
-use Rattle.record_model.specs.declared.entry.Entry.{Entry}
-use Rattle.record_model.specs.Nodes.{root_at}
-use Rattle.record_model.specs.Records.{Record}
-use Rattle.index_model.specs.Indexes.{Place, number_of, node_of_body, node_of_part, node_of_block}
-use Rattle.index_model.specs.Indexes.{node_block as block_of_vcn}
-use Rattle.index_model.specs.Walks.{root_vcn, met_in, sought_in, met_from, walk_of, find_of}
-use Rattle.state_model.specs.declared.stream.Extents.{Extents}
-use Rattle.state_model.specs.declared.stream.Stream.{Stream}
-use Rattle.state_model.specs.declared.stream.Stream.TheVariants.{Held, Placed}
-use Rattle.state_model.specs.Streams.{block_at, sector_bytes, byte_at, extent_bytes, stream_bytes}
-use Rattle.state_model.specs.Loads.{Slot, Free, is_used, slot_at, slot_of, table_slot, used_record, records_of}
+use Rattle.volume_model.specs.disk_model.declared.block.Block.{Block}
+use Rattle.volume_model.specs.disk_model.declared.block.Body.{Body}
+use Rattle.volume_model.specs.disk_model.declared.block.BlockKind.TheVariants.{Plain, FileRec}
+use Rattle.volume_model.specs.disk_model.Content.{Content}
+use Rattle.volume_model.specs.record_model.declared.entry.Entry.{Entry}
+use Rattle.volume_model.specs.record_model.Nodes.{root_at}
+use Rattle.volume_model.specs.record_model.Records.{Record}
+use Rattle.volume_model.specs.index_model.Indexes.{Place, number_of, node_of_body, node_of_part, node_of_block}
+use Rattle.volume_model.specs.index_model.Indexes.{node_block as block_of_vcn}
+use Rattle.volume_model.specs.index_model.Walks.{root_vcn, met_in, sought_in, met_from, walk_of, find_of}
+use Rattle.volume_model.specs.state_model.declared.stream.Extents.{Extents}
+use Rattle.volume_model.specs.state_model.declared.stream.Stream.{Stream}
+use Rattle.volume_model.specs.state_model.declared.stream.Stream.TheVariants.{Held, Placed}
+use Rattle.volume_model.specs.state_model.Streams.{block_at, sector_bytes, byte_at, extent_bytes, stream_bytes}
+use Rattle.volume_model.specs.state_model.Loads.{Slot, Free, is_used, slot_at, slot_of, table_slot, used_record, records_of}
 use Rattle.volume_model.specs.Volumes.{Volume, bytes_or, block_bytes, record_block, record_bytes, is_in_use}
 use Rattle.volume_model.specs.Indexes.{block_count, index_block, blocks_of, stream_blocks, index_stream, index_place, root_value, links_read, links_below, index_links}
 use Rattle.stream_laws.specs.Frames.{SameBytesIn, SameBytesInStream, SameBytesInSome, SameRecordIn, SameNodesIn, SameIndexIn}

@@ -1,24 +1,24 @@
 -- A volume is the same where two contents agree on what it is loaded from.
 use Rattle.std.proofs.Common.{◌≡◌, ℕ, zero, suc, ◌<◌, Bool, true, false, not, cond, ◌&&◌, ◌||◌, eqb, List, ◌++◌, map, Option, Some, None, Result, Ok, Err, refl, ap, ◌∙◌, arith}
 use Rattle.std.specs.List.{flat_map, range_with_len}
-use Rattle.host_base.specs.Answers.{◌>>=◌}
-use Rattle.disk_model.specs.declared.block.Body.{Body}
-use Rattle.disk_model.specs.declared.block.BlockKind.TheVariants.{FileRec}
-use Rattle.disk_model.specs.Content.{Content, HasSizes}
-use Rattle.disk_model.specs.Writes.{Write, overlay}
-use Rattle.record_model.specs.Records.{Record, record_at}
-use Rattle.record_model.specs.declared.attribute.Attr.{Attr}
-use Rattle.record_model.specs.ListEntries.{ReadEntries, list_entries}
-use Rattle.file_tree.specs.declared.node.Node.{Node}
-use Rattle.bit_set.specs.Words.{bits_of_bytes}
-use Rattle.state_model.specs.declared.geometry.Geometry.{Geometry}
-use Rattle.state_model.specs.declared.geometry.MapRefusal.{MapRefusal}
-use Rattle.state_model.specs.declared.stream.Extents.{Extents}
-use Rattle.state_model.specs.declared.stream.Stream.{Stream}
-use Rattle.state_model.specs.Files.{Table, file_at}
-use Rattle.state_model.specs.Trees.{is_nameless}
-use Rattle.state_model.specs.Streams.{has_cut_block}
-use Rattle.state_model.specs.Loads.{Slot, slot_by, boot_block, judged, extents_in, record_count, table_of, table_slot, records_of, table_in, list_stream, list_entries_in, entries_of, holds_all, has_held_list, named_attrs, all_attrs, whole_file, joined_file, cuts_index, breaks_9, breaks_list, breaks_10, broken_rule, or_rule, rule_at, torn_refusal, rule_refusal, first_some, first_of, unless, files_of, files_in, data_stream}
+use Rattle.volume_model.specs.host_base.Answers.{◌>>=◌}
+use Rattle.volume_model.specs.disk_model.declared.block.Body.{Body}
+use Rattle.volume_model.specs.disk_model.declared.block.BlockKind.TheVariants.{FileRec}
+use Rattle.volume_model.specs.disk_model.Content.{Content, HasSizes}
+use Rattle.volume_model.specs.disk_model.Writes.{Write, overlay}
+use Rattle.volume_model.specs.record_model.Records.{Record, record_at}
+use Rattle.volume_model.specs.record_model.declared.attribute.Attr.{Attr}
+use Rattle.volume_model.specs.record_model.ListEntries.{ReadEntries, list_entries}
+use Rattle.volume_model.specs.file_tree.declared.node.Node.{Node}
+use Rattle.volume_model.specs.bit_set.Words.{bits_of_bytes}
+use Rattle.volume_model.specs.state_model.declared.geometry.Geometry.{Geometry}
+use Rattle.volume_model.specs.state_model.declared.geometry.MapRefusal.{MapRefusal}
+use Rattle.volume_model.specs.state_model.declared.stream.Extents.{Extents}
+use Rattle.volume_model.specs.state_model.declared.stream.Stream.{Stream}
+use Rattle.volume_model.specs.state_model.Files.{Table, file_at}
+use Rattle.volume_model.specs.state_model.Trees.{is_nameless}
+use Rattle.volume_model.specs.state_model.Streams.{has_cut_block}
+use Rattle.volume_model.specs.state_model.Loads.{Slot, slot_by, boot_block, judged, extents_in, record_count, table_of, table_slot, records_of, table_in, list_stream, list_entries_in, entries_of, holds_all, has_held_list, named_attrs, all_attrs, whole_file, joined_file, cuts_index, breaks_9, breaks_list, breaks_10, broken_rule, or_rule, rule_at, torn_refusal, rule_refusal, first_some, first_of, unless, files_of, files_in, data_stream}
 use Rattle.volume_model.specs.Volumes.{Volume, volume_of, count_of, file_in, bytes_or, cluster_bitmap, record_bitmap, cluster_bits, record_bits}
 use Rattle.volume_model.specs.Nodes.{kind_in, shows_data, data_shown, node_with, node_by, some_node, node_at}
 use Rattle.stream_laws.specs.Frames.{SameBytesInSome}

@@ -3,16 +3,16 @@ use Rattle.std.proofs.Common.{◌≡◌, ℕ, ◌+◌, ◌-◌, ◌/◌, ◌%◌
 use Rattle.std.specs.Prelude.{unwrap_or}
 use Rattle.std.proofs.lemmas.Bool.{cases_eq, cases_lt, and_from, eq-eqb, le-leb, lt-leb, lt-ltb, le-ltb, false_from_ne_true}
 use Rattle.std.proofs.lemmas.List.{get_or_past}
-use Rattle.disk_model.specs.declared.block.Block.{Block}
-use Rattle.disk_model.specs.declared.block.BlockKind.{BlockKind}
-use Rattle.disk_model.specs.declared.block.BlockKind.TheVariants.{Plain, FileRec, Index}
-use Rattle.disk_model.specs.Bytes.{written}
-use Rattle.disk_model.specs.Sectors.{same_kind, same_block, overlap}
-use Rattle.disk_model.specs.Content.{Content, HasSizes}
-use Rattle.disk_model.specs.Writes.{Write, overlay, put}
-use Rattle.disk_model.proofs.Frames.{written_within, written_before, written_behind, length-written, length-bytes_after, bytes_elsewhere}
-use Rattle.state_model.specs.declared.stream.Extents.{Extents}
-use Rattle.state_model.specs.Streams.{block_at, extent_bytes}
+use Rattle.volume_model.specs.disk_model.declared.block.Block.{Block}
+use Rattle.volume_model.specs.disk_model.declared.block.BlockKind.{BlockKind}
+use Rattle.volume_model.specs.disk_model.declared.block.BlockKind.TheVariants.{Plain, FileRec, Index}
+use Rattle.volume_model.specs.disk_model.Bytes.{written}
+use Rattle.volume_model.specs.disk_model.Sectors.{same_kind, same_block, overlap}
+use Rattle.volume_model.specs.disk_model.Content.{Content, HasSizes}
+use Rattle.volume_model.specs.disk_model.Writes.{Write, overlay, put}
+use Rattle.volume_model.proofs.disk_model.Frames.{written_within, written_before, written_behind, length-written, length-bytes_after, bytes_elsewhere}
+use Rattle.volume_model.specs.state_model.declared.stream.Extents.{Extents}
+use Rattle.volume_model.specs.state_model.Streams.{block_at, extent_bytes}
 use Rattle.stream_laws.specs.Changes.{put_in}
 use Rattle.stream_laws.specs.Places.{AreOnce}
 use Rattle.stream_laws.specs.Puts.{Put, all_put, IsPut, ArePuts, none, inside, outside}

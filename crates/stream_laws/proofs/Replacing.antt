@@ -1,11 +1,11 @@
 -- One file replaced.
 use Rattle.std.proofs.Common.{◌≡◌, ℕ, zero, suc, ◌+◌, ◌<◌, ◌≤◌, List, Option, None, refl, ap, inl, inr, arith}
 use Rattle.std.proofs.lemmas.Bool.{cases_lt}
-use Rattle.host_base.specs.declared.file_ref.FileRef.{FileRef}
-use Rattle.record_model.specs.Records.{Record}
-use Rattle.state_model.specs.Files.{Table, only_base, file_at, file_links, links_at}
-use Rattle.state_model.specs.Loads.{table_in}
-use Rattle.state_model.specs.Rules.{count_in, names_in}
+use Rattle.volume_model.specs.host_base.declared.file_ref.FileRef.{FileRef}
+use Rattle.volume_model.specs.record_model.Records.{Record}
+use Rattle.volume_model.specs.state_model.Files.{Table, only_base, file_at, file_links, links_at}
+use Rattle.volume_model.specs.state_model.Loads.{table_in}
+use Rattle.volume_model.specs.state_model.Rules.{count_in, names_in}
 use Rattle.volume_model.specs.Owners.{file_runs, volume_runs, uses}
 use Rattle.stream_laws.specs.Replacing.{SameBut, OneFileDiffers}
 use Rattle.stream_laws.proofs.Counting.{sum_replaced}

@@ -7,25 +7,25 @@ use Rattle.std.proofs.Math.Bool.{and-false}
 use Rattle.std.proofs.lemmas.List.{append-nil, length-append, length-replicate, get_or_past, get_or_append_left, get_or-append_right, get_or-replicate, get_or-set_same, get_or-set_other}
 use Rattle.std.proofs.lemmas.List.FromFn.{length-map-range_with_len, get_or-map-range_with_len}
 use Rattle.std.proofs.Math.ListN.{length-set}
-use Rattle.host_base.specs.Answers.{◌>>=◌}
-use Rattle.host_base.specs.FileRefs.{same_reference}
-use Rattle.disk_model.specs.declared.block.Block.{Block}
-use Rattle.disk_model.specs.declared.block.BlockKind.TheVariants.{FileRec}
-use Rattle.disk_model.specs.declared.block.Body.{Body}
-use Rattle.disk_model.specs.Bytes.{zeros}
-use Rattle.disk_model.specs.Content.{Content, HasSizes, is_signed}
-use Rattle.disk_model.specs.Writes.{Write, overlay}
-use Rattle.record_model.specs.declared.attribute.Attr.{Attr}
-use Rattle.record_model.specs.declared.runs.Run.{Run}
-use Rattle.record_model.specs.declared.list_entry.ListEntry.{ListEntry}
-use Rattle.record_model.specs.ListEntries.{ReadEntries}
-use Rattle.record_model.specs.Records.{Record}
-use Rattle.state_model.specs.declared.geometry.Geometry.{Geometry}
-use Rattle.state_model.specs.declared.geometry.MapRefusal.{MapRefusal}
-use Rattle.state_model.specs.declared.stream.Extents.{Extents}
-use Rattle.state_model.specs.Files.{Table, file_at, only_base, is_base_record, reference}
-use Rattle.state_model.specs.Streams.{block_at, is_inside_block, cuts_block, has_cut_block}
-use Rattle.state_model.specs.Loads.{Slot, Torn, Free, Broken, Used, record_count, table_of, slot_at, slot_of, table_slot, used_record, records_of, table_in, list_stream, list_entries_in, entries_of, no_entries, is_named_in, named_attrs, all_attrs, whole_file, joined_file, holds_named, is_held, holds_all, has_held_list, cuts_index, breaks_9, breaks_list, breaks_10, broken_rule, or_rule, rule_at, torn_refusal, rule_refusal, first_some, first_of, unless, files_of, files_in}
+use Rattle.volume_model.specs.host_base.Answers.{◌>>=◌}
+use Rattle.volume_model.specs.host_base.FileRefs.{same_reference}
+use Rattle.volume_model.specs.disk_model.declared.block.Block.{Block}
+use Rattle.volume_model.specs.disk_model.declared.block.BlockKind.TheVariants.{FileRec}
+use Rattle.volume_model.specs.disk_model.declared.block.Body.{Body}
+use Rattle.volume_model.specs.disk_model.Bytes.{zeros}
+use Rattle.volume_model.specs.disk_model.Content.{Content, HasSizes, is_signed}
+use Rattle.volume_model.specs.disk_model.Writes.{Write, overlay}
+use Rattle.volume_model.specs.record_model.declared.attribute.Attr.{Attr}
+use Rattle.volume_model.specs.record_model.declared.runs.Run.{Run}
+use Rattle.volume_model.specs.record_model.declared.list_entry.ListEntry.{ListEntry}
+use Rattle.volume_model.specs.record_model.ListEntries.{ReadEntries}
+use Rattle.volume_model.specs.record_model.Records.{Record}
+use Rattle.volume_model.specs.state_model.declared.geometry.Geometry.{Geometry}
+use Rattle.volume_model.specs.state_model.declared.geometry.MapRefusal.{MapRefusal}
+use Rattle.volume_model.specs.state_model.declared.stream.Extents.{Extents}
+use Rattle.volume_model.specs.state_model.Files.{Table, file_at, only_base, is_base_record, reference}
+use Rattle.volume_model.specs.state_model.Streams.{block_at, is_inside_block, cuts_block, has_cut_block}
+use Rattle.volume_model.specs.state_model.Loads.{Slot, Torn, Free, Broken, Used, record_count, table_of, slot_at, slot_of, table_slot, used_record, records_of, table_in, list_stream, list_entries_in, entries_of, no_entries, is_named_in, named_attrs, all_attrs, whole_file, joined_file, holds_named, is_held, holds_all, has_held_list, cuts_index, breaks_9, breaks_list, breaks_10, broken_rule, or_rule, rule_at, torn_refusal, rule_refusal, first_some, first_of, unless, files_of, files_in}
 use Rattle.volume_model.specs.Volumes.{Volume, volume_of, count_of, block_bytes, record_block, record_bytes}
 use Rattle.stream_laws.specs.Changes.{LeavesBytes, LeavesRecord}
 use Rattle.stream_laws.specs.Volumes.{base_record}

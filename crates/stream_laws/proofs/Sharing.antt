@@ -6,17 +6,17 @@ use Rattle.std.specs.Cmp.Lexicographic.{pointwise}
 use Rattle.std.proofs.lemmas.Bool.{cases_eq, cases_Bool, and_parts, eqb-true}
 use Rattle.std.proofs.lemmas.List.Sums.{sum_by-cons}
 use Rattle.std.proofs.lemmas.List.Concat.{flat_map-append}
-use Rattle.disk_model.specs.declared.block.Block.{Block}
-use Rattle.disk_model.specs.declared.block.BlockKind.{BlockKind}
-use Rattle.disk_model.specs.Sectors.{overlap}
-use Rattle.record_model.specs.declared.attribute.OwnForm.{OwnForm}
-use Rattle.record_model.specs.declared.attribute.OwnForm.TheVariants.{Resident, Mapped}
-use Rattle.record_model.specs.declared.attribute.Attr.{Attr}
-use Rattle.record_model.specs.declared.runs.Run.{Run}
-use Rattle.record_model.specs.Records.{Record}
-use Rattle.state_model.specs.Files.{file_at, only_base, is_base_record}
-use Rattle.state_model.specs.Loads.{table_in}
-use Rattle.state_model.specs.Streams.{first_vcn, is_attribute_of, with_attribute, sorted_into, attributes_of, attribute_runs, form_stream, joined, stream_of, block_at}
+use Rattle.volume_model.specs.disk_model.declared.block.Block.{Block}
+use Rattle.volume_model.specs.disk_model.declared.block.BlockKind.{BlockKind}
+use Rattle.volume_model.specs.disk_model.Sectors.{overlap}
+use Rattle.volume_model.specs.record_model.declared.attribute.OwnForm.{OwnForm}
+use Rattle.volume_model.specs.record_model.declared.attribute.OwnForm.TheVariants.{Resident, Mapped}
+use Rattle.volume_model.specs.record_model.declared.attribute.Attr.{Attr}
+use Rattle.volume_model.specs.record_model.declared.runs.Run.{Run}
+use Rattle.volume_model.specs.record_model.Records.{Record}
+use Rattle.volume_model.specs.state_model.Files.{file_at, only_base, is_base_record}
+use Rattle.volume_model.specs.state_model.Loads.{table_in}
+use Rattle.volume_model.specs.state_model.Streams.{first_vcn, is_attribute_of, with_attribute, sorted_into, attributes_of, attribute_runs, form_stream, joined, stream_of, block_at}
 use Rattle.volume_model.specs.Volumes.{Volume, file_in, file_stream}
 use Rattle.volume_model.specs.Owners.{file_runs, volume_runs, uses}
 use Rattle.stream_laws.specs.Places.{AreOnce, AreApart}

@@ -5,26 +5,26 @@ use Rattle.std.specs.List.{filter, list_all, list_any}
 use Rattle.std.proofs.lemmas.Bool.{cases_lt, or_parts, and_left, le-leb}
 use Rattle.std.proofs.lemmas.List.{get_or_past}
 use Rattle.std.proofs.lemmas.List.FromFn.{length-map-range_with_len, get_or-map-range_with_len}
-use Rattle.host_base.specs.Answers.{◌>>=◌, needs}
-use Rattle.disk_model.specs.declared.block.Body.{Body}
-use Rattle.disk_model.specs.declared.block.BlockKind.TheVariants.{FileRec}
-use Rattle.disk_model.specs.Content.{Content}
-use Rattle.record_model.specs.declared.attribute.Attr.{Attr}
-use Rattle.record_model.specs.declared.record.RecHead.{RecHead}
-use Rattle.record_model.specs.declared.runs.Run.{Run}
-use Rattle.record_model.specs.Attributes.{is_inside, attr_of}
-use Rattle.record_model.specs.Values.{has_lawful_value}
-use Rattle.record_model.specs.Records.{Record, Pieces, cut, most_attributes, types_rise, has_first, has_size, attribute_bytes, rec_head_of, record_at, shaped_at, has_lawful_values}
-use Rattle.record_model.specs.Constants.{attribute_list, data_type}
-use Rattle.state_model.specs.declared.geometry.Geometry.{Geometry}
-use Rattle.state_model.specs.declared.geometry.MapRefusal.{MapRefusal}
-use Rattle.state_model.specs.declared.geometry.MapRefusal.TheVariants.{BadRecord, MftList, MftLarge}
-use Rattle.state_model.specs.declared.stream.Extents.{Extents}
-use Rattle.state_model.specs.declared.stream.Stream.{Stream}
-use Rattle.state_model.specs.declared.stream.Stream.TheVariants.{Held, Placed}
-use Rattle.state_model.specs.Files.{Table, file_at, only_base, is_base_record, has_type}
-use Rattle.state_model.specs.Streams.{is_attribute_of, sorted_into, attributes_of, joined, stream_of, block_at}
-use Rattle.state_model.specs.Loads.{Slot, Torn, Free, Broken, Used, is_used, slot_in, slot_by, slot_of, whole_record, has_all_pairs, boot_block, judged, data_stream, extents_or, record_count, most_records, table_extents, extents_in, table_of, slot_at, table_slot, used_record, records_of, table_in, list_stream, all_attrs, whole_file, joined_file, files_of, files_in}
+use Rattle.volume_model.specs.host_base.Answers.{◌>>=◌, needs}
+use Rattle.volume_model.specs.disk_model.declared.block.Body.{Body}
+use Rattle.volume_model.specs.disk_model.declared.block.BlockKind.TheVariants.{FileRec}
+use Rattle.volume_model.specs.disk_model.Content.{Content}
+use Rattle.volume_model.specs.record_model.declared.attribute.Attr.{Attr}
+use Rattle.volume_model.specs.record_model.declared.record.RecHead.{RecHead}
+use Rattle.volume_model.specs.record_model.declared.runs.Run.{Run}
+use Rattle.volume_model.specs.record_model.Attributes.{is_inside, attr_of}
+use Rattle.volume_model.specs.record_model.Values.{has_lawful_value}
+use Rattle.volume_model.specs.record_model.Records.{Record, Pieces, cut, most_attributes, types_rise, has_first, has_size, attribute_bytes, rec_head_of, record_at, shaped_at, has_lawful_values}
+use Rattle.volume_model.specs.record_model.Constants.{attribute_list, data_type}
+use Rattle.volume_model.specs.state_model.declared.geometry.Geometry.{Geometry}
+use Rattle.volume_model.specs.state_model.declared.geometry.MapRefusal.{MapRefusal}
+use Rattle.volume_model.specs.state_model.declared.geometry.MapRefusal.TheVariants.{BadRecord, MftList, MftLarge}
+use Rattle.volume_model.specs.state_model.declared.stream.Extents.{Extents}
+use Rattle.volume_model.specs.state_model.declared.stream.Stream.{Stream}
+use Rattle.volume_model.specs.state_model.declared.stream.Stream.TheVariants.{Held, Placed}
+use Rattle.volume_model.specs.state_model.Files.{Table, file_at, only_base, is_base_record, has_type}
+use Rattle.volume_model.specs.state_model.Streams.{is_attribute_of, sorted_into, attributes_of, joined, stream_of, block_at}
+use Rattle.volume_model.specs.state_model.Loads.{Slot, Torn, Free, Broken, Used, is_used, slot_in, slot_by, slot_of, whole_record, has_all_pairs, boot_block, judged, data_stream, extents_or, record_count, most_records, table_extents, extents_in, table_of, slot_at, table_slot, used_record, records_of, table_in, list_stream, all_attrs, whole_file, joined_file, files_of, files_in}
 use Rattle.volume_model.specs.Volumes.{Volume, file_in, file_stream, table_file}
 use Rattle.volume_model.specs.Owners.{volume_runs}
 use Rattle.stream_laws.specs.Places.{AreOnce, AreApart}

@@ -2,15 +2,15 @@
 use Rattle.std.proofs.Common.{◌≡◌, ◌≢◌, ℕ, ◌+◌, ◌-◌, ◌*◌, ◌/◌, ◌%◌, ◌<◌, Bool, true, false, cond, leb, ltb, List, [], ◌∷◌, ◌++◌, find, Option, Some, None, refl, sym, ap, ◌∙◌, inl, inr, arith}
 use Rattle.std.specs.Prelude.{option_map}
 use Rattle.std.proofs.lemmas.Bool.{cases_Bool, and_parts, and_from, lt-ltb, ltb-true}
-use Rattle.disk_model.specs.declared.block.Block.{Block}
-use Rattle.disk_model.specs.declared.block.BlockKind.{BlockKind}
-use Rattle.disk_model.specs.declared.block.BlockKind.TheVariants.{Plain}
-use Rattle.disk_model.specs.Laws.{IsElsewhere}
-use Rattle.disk_model.specs.Sectors.{HasSector, sectors}
-use Rattle.disk_model.specs.Writes.{Write}
-use Rattle.record_model.specs.declared.runs.Run.{Run}
-use Rattle.state_model.specs.declared.stream.Extents.{Extents}
-use Rattle.state_model.specs.Streams.{holds, lcn_in, block_at}
+use Rattle.volume_model.specs.disk_model.declared.block.Block.{Block}
+use Rattle.volume_model.specs.disk_model.declared.block.BlockKind.{BlockKind}
+use Rattle.volume_model.specs.disk_model.declared.block.BlockKind.TheVariants.{Plain}
+use Rattle.volume_model.specs.disk_model.Laws.{IsElsewhere}
+use Rattle.volume_model.specs.disk_model.Sectors.{HasSector, sectors}
+use Rattle.volume_model.specs.disk_model.Writes.{Write}
+use Rattle.volume_model.specs.record_model.declared.runs.Run.{Run}
+use Rattle.volume_model.specs.state_model.declared.stream.Extents.{Extents}
+use Rattle.volume_model.specs.state_model.Streams.{holds, lcn_in, block_at}
 use Rattle.volume_model.specs.Volumes.{Volume}
 use Rattle.volume_model.specs.Owners.{volume_runs, uses}
 use Rattle.stream_laws.specs.Frames.{IsRead}

@@ -1,8 +1,8 @@
 -- The bits of a bitmap after bytes are put into it.
 use Rattle.std.specs.Prelude.{◌≡◌, ℕ, ◌*◌, ◌/◌, ◌%◌, ◌<◌, ◌≤◌, Bool, false, List, length, Option, Some, None}
-use Rattle.disk_model.specs.Content.{Content}
-use Rattle.bit_set.specs.Bits.{bit}
-use Rattle.bit_set.specs.Words.{is_one, byte_bit}
+use Rattle.volume_model.specs.disk_model.Content.{Content}
+use Rattle.volume_model.specs.bit_set.Bits.{bit}
+use Rattle.volume_model.specs.bit_set.Words.{is_one, byte_bit}
 use Rattle.volume_model.specs.Volumes.{Volume, count_of, bytes_or, size_or, cluster_bitmap, record_bitmap, cluster_bits, record_bits}
 use Rattle.stream_laws.specs.Puts.{Put, all_put}
 use Rattle.stream_laws.specs.Growth.{put_byte, filled}

@@ -1,19 +1,19 @@
 -- What writes to blocks change in a volume's streams, and what they leave.
 use Rattle.std.specs.Prelude.{◌≡◌, ℕ, ◌/◌, ◌%◌, ◌<◌, ◌≤◌, List, length, slice_index, unwrap_or, false, Option, Some, None, ⊤}
 use Rattle.std.specs.List.{AllByRecursion}
-use Rattle.disk_model.specs.declared.block.Block.{Block}
-use Rattle.disk_model.specs.declared.block.BlockKind.TheVariants.{Plain}
-use Rattle.disk_model.specs.Sectors.{overlap}
-use Rattle.disk_model.specs.Content.{Content, HasSizes}
-use Rattle.disk_model.specs.Writes.{Write, overlay, last_put}
-use Rattle.disk_model.specs.Laws.{IsElsewhere}
-use Rattle.record_model.specs.declared.runs.Run.{Run}
-use Rattle.record_model.specs.Records.{Record}
-use Rattle.state_model.specs.declared.stream.Extents.{Extents}
-use Rattle.state_model.specs.declared.stream.Stream.{Stream}
-use Rattle.state_model.specs.declared.stream.Stream.TheVariants.{Held, Placed}
-use Rattle.state_model.specs.Streams.{block_at, extent_bytes}
-use Rattle.state_model.specs.Loads.{table_slot, records_of}
+use Rattle.volume_model.specs.disk_model.declared.block.Block.{Block}
+use Rattle.volume_model.specs.disk_model.declared.block.BlockKind.TheVariants.{Plain}
+use Rattle.volume_model.specs.disk_model.Sectors.{overlap}
+use Rattle.volume_model.specs.disk_model.Content.{Content, HasSizes}
+use Rattle.volume_model.specs.disk_model.Writes.{Write, overlay, last_put}
+use Rattle.volume_model.specs.disk_model.Laws.{IsElsewhere}
+use Rattle.volume_model.specs.record_model.declared.runs.Run.{Run}
+use Rattle.volume_model.specs.record_model.Records.{Record}
+use Rattle.volume_model.specs.state_model.declared.stream.Extents.{Extents}
+use Rattle.volume_model.specs.state_model.declared.stream.Stream.{Stream}
+use Rattle.volume_model.specs.state_model.declared.stream.Stream.TheVariants.{Held, Placed}
+use Rattle.volume_model.specs.state_model.Streams.{block_at, extent_bytes}
+use Rattle.volume_model.specs.state_model.Loads.{table_slot, records_of}
 use Rattle.volume_model.specs.Volumes.{Volume, bytes_or, record_bytes, is_in_use}
 use Rattle.volume_model.specs.Indexes.{block_count, index_block, index_stream, index_links}
 use Rattle.stream_laws.specs.Frames.{IsRead, IsRecordBlock}

@@ -1,16 +1,16 @@
 -- What of a volume's streams, records and indexes two contents share, where they agree on the blocks that these lie in.
 use Rattle.std.specs.Prelude.{◌≡◌, ℕ, ◌*◌, ◌<◌, min, List, Option, Some, None, slice_get, ⊤}
-use Rattle.disk_model.specs.declared.block.Block.{Block}
-use Rattle.disk_model.specs.declared.block.BlockKind.TheVariants.{Plain, FileRec}
-use Rattle.disk_model.specs.Content.{Content}
-use Rattle.record_model.specs.Records.{Record}
-use Rattle.index_model.specs.Indexes.{Place, node_of_block}
-use Rattle.index_model.specs.Walks.{walk_of, find_of}
-use Rattle.state_model.specs.declared.stream.Extents.{Extents}
-use Rattle.state_model.specs.declared.stream.Stream.{Stream}
-use Rattle.state_model.specs.declared.stream.Stream.TheVariants.{Held, Placed}
-use Rattle.state_model.specs.Streams.{block_at, extent_bytes, stream_bytes}
-use Rattle.state_model.specs.Loads.{table_slot, records_of}
+use Rattle.volume_model.specs.disk_model.declared.block.Block.{Block}
+use Rattle.volume_model.specs.disk_model.declared.block.BlockKind.TheVariants.{Plain, FileRec}
+use Rattle.volume_model.specs.disk_model.Content.{Content}
+use Rattle.volume_model.specs.record_model.Records.{Record}
+use Rattle.volume_model.specs.index_model.Indexes.{Place, node_of_block}
+use Rattle.volume_model.specs.index_model.Walks.{walk_of, find_of}
+use Rattle.volume_model.specs.state_model.declared.stream.Extents.{Extents}
+use Rattle.volume_model.specs.state_model.declared.stream.Stream.{Stream}
+use Rattle.volume_model.specs.state_model.declared.stream.Stream.TheVariants.{Held, Placed}
+use Rattle.volume_model.specs.state_model.Streams.{block_at, extent_bytes, stream_bytes}
+use Rattle.volume_model.specs.state_model.Loads.{table_slot, records_of}
 use Rattle.volume_model.specs.Volumes.{Volume, bytes_or, record_bytes, is_in_use}
 use Rattle.volume_model.specs.Indexes.{block_count, index_block, index_stream, index_place, index_links}
 

@@ -1,17 +1,17 @@
 -- The bytes of a stream that gets other clusters and sizes, and of a value that leaves its record.
 use Rattle.std.specs.Prelude.{◌≡◌, ◌≢◌, ◌⊎◌, ℕ, ◌+◌, ◌-◌, ◌*◌, ◌/◌, ◌<◌, ◌≤◌, min, ◌&&◌, true, nat_le, nat_lt, is_some, if◌then◌else◌, List, [], ◌∷◌, ◌++◌, length, take, find, slice_index, unwrap_or, Option, Some, None}
-use Rattle.disk_model.specs.declared.block.Block.{Block}
-use Rattle.disk_model.specs.declared.block.BlockKind.{BlockKind}
-use Rattle.disk_model.specs.declared.block.BlockKind.TheVariants.{Plain}
-use Rattle.disk_model.specs.Bytes.{zeros}
-use Rattle.disk_model.specs.Content.{Content, HasSizes}
-use Rattle.disk_model.specs.Laws.{IsElsewhere}
-use Rattle.disk_model.specs.Sectors.{HasSector, sectors}
-use Rattle.disk_model.specs.Writes.{Write, overlay, later}
-use Rattle.record_model.specs.declared.runs.Run.{Run}
-use Rattle.state_model.specs.declared.stream.Extents.{Extents}
-use Rattle.state_model.specs.declared.stream.Stream.{Stream}
-use Rattle.state_model.specs.Streams.{holds, block_at, extent_bytes}
+use Rattle.volume_model.specs.disk_model.declared.block.Block.{Block}
+use Rattle.volume_model.specs.disk_model.declared.block.BlockKind.{BlockKind}
+use Rattle.volume_model.specs.disk_model.declared.block.BlockKind.TheVariants.{Plain}
+use Rattle.volume_model.specs.disk_model.Bytes.{zeros}
+use Rattle.volume_model.specs.disk_model.Content.{Content, HasSizes}
+use Rattle.volume_model.specs.disk_model.Laws.{IsElsewhere}
+use Rattle.volume_model.specs.disk_model.Sectors.{HasSector, sectors}
+use Rattle.volume_model.specs.disk_model.Writes.{Write, overlay, later}
+use Rattle.volume_model.specs.record_model.declared.runs.Run.{Run}
+use Rattle.volume_model.specs.state_model.declared.stream.Extents.{Extents}
+use Rattle.volume_model.specs.state_model.declared.stream.Stream.{Stream}
+use Rattle.volume_model.specs.state_model.Streams.{holds, block_at, extent_bytes}
 use Rattle.volume_model.specs.Volumes.{Volume, bytes_or, size_or}
 use Rattle.volume_model.specs.Owners.{volume_runs, uses}
 use Rattle.stream_laws.specs.Frames.{IsRead}

@@ -1,3 +1,4 @@
+pub use Rattle.volume_model.specs as volume_model
 pub mod Frames
 pub mod Changes
 pub mod Places

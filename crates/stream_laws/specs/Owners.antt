@@ -1,14 +1,14 @@
 -- The blocks that a volume owns.
 use Rattle.std.specs.Prelude.{◌≡◌, ℕ, ◌*◌, ◌<◌, ◌==◌, ◌&&◌, ◌||◌, Bool, true, false, nat_eq, [], if◌then◌else◌, Option, Some, None}
 use Rattle.std.specs.Cmp.Lexicographic.{pointwise}
-use Rattle.disk_model.specs.declared.block.Block.{Block}
-use Rattle.disk_model.specs.declared.block.BlockKind.{BlockKind}
-use Rattle.disk_model.specs.declared.block.BlockKind.TheVariants.{Plain, FileRec, Index}
-use Rattle.disk_model.specs.Sectors.{sectors, overlap, are_rivals}
-use Rattle.record_model.specs.Constants.{data_type, index_allocation}
-use Rattle.state_model.specs.declared.stream.Stream.{Stream}
-use Rattle.state_model.specs.declared.stream.Stream.TheVariants.{Held, Placed}
-use Rattle.state_model.specs.Streams.{block_at}
+use Rattle.volume_model.specs.disk_model.declared.block.Block.{Block}
+use Rattle.volume_model.specs.disk_model.declared.block.BlockKind.{BlockKind}
+use Rattle.volume_model.specs.disk_model.declared.block.BlockKind.TheVariants.{Plain, FileRec, Index}
+use Rattle.volume_model.specs.disk_model.Sectors.{sectors, overlap, are_rivals}
+use Rattle.volume_model.specs.record_model.Constants.{data_type, index_allocation}
+use Rattle.volume_model.specs.state_model.declared.stream.Stream.{Stream}
+use Rattle.volume_model.specs.state_model.declared.stream.Stream.TheVariants.{Held, Placed}
+use Rattle.volume_model.specs.state_model.Streams.{block_at}
 use Rattle.volume_model.specs.Volumes.{Volume, table_file, mirror_file}
 use Rattle.volume_model.specs.Owners.{volume_runs}
 use Rattle.stream_laws.specs.Places.{AreOnce}

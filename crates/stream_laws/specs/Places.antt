@@ -1,11 +1,11 @@
 -- No two places of a stream have a block in common, where no cluster lies twice in its runs.
 use Rattle.std.specs.Prelude.{◌≡◌, ℕ, ◌+◌, ◌*◌, ◌<◌, ◌≤◌, true, false, List, Some}
 use Rattle.std.specs.List.{list_all}
-use Rattle.disk_model.specs.declared.block.Block.{Block}
-use Rattle.disk_model.specs.declared.block.BlockKind.{BlockKind}
-use Rattle.disk_model.specs.Sectors.{sectors, overlap}
-use Rattle.record_model.specs.declared.runs.Run.{Run}
-use Rattle.state_model.specs.Streams.{block_at}
+use Rattle.volume_model.specs.disk_model.declared.block.Block.{Block}
+use Rattle.volume_model.specs.disk_model.declared.block.BlockKind.{BlockKind}
+use Rattle.volume_model.specs.disk_model.Sectors.{sectors, overlap}
+use Rattle.volume_model.specs.record_model.declared.runs.Run.{Run}
+use Rattle.volume_model.specs.state_model.Streams.{block_at}
 use Rattle.volume_model.specs.Sizes.{lies_inside}
 use Rattle.volume_model.specs.Owners.{uses, keeps_owner}
 

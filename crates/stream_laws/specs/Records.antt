@@ -1,14 +1,14 @@
 -- What writes to the blocks of file records change in the file table.
 use Rattle.std.specs.Prelude.{◌≡◌, ◌≢◌, ℕ, ◌*◌, ◌<◌, List, slice_set, Some}
 use Rattle.std.specs.List.{AllByRecursion}
-use Rattle.disk_model.specs.declared.block.Block.{Block}
-use Rattle.disk_model.specs.declared.block.BlockKind.TheVariants.{FileRec}
-use Rattle.disk_model.specs.Content.{Content, HasSizes}
-use Rattle.disk_model.specs.Writes.{Write, overlay}
-use Rattle.record_model.specs.declared.runs.Run.{Run}
-use Rattle.state_model.specs.declared.stream.Extents.{Extents}
-use Rattle.state_model.specs.Streams.{block_at}
-use Rattle.state_model.specs.Loads.{slot_of, table_slot, used_record, records_of}
+use Rattle.volume_model.specs.disk_model.declared.block.Block.{Block}
+use Rattle.volume_model.specs.disk_model.declared.block.BlockKind.TheVariants.{FileRec}
+use Rattle.volume_model.specs.disk_model.Content.{Content, HasSizes}
+use Rattle.volume_model.specs.disk_model.Writes.{Write, overlay}
+use Rattle.volume_model.specs.record_model.declared.runs.Run.{Run}
+use Rattle.volume_model.specs.state_model.declared.stream.Extents.{Extents}
+use Rattle.volume_model.specs.state_model.Streams.{block_at}
+use Rattle.volume_model.specs.state_model.Loads.{slot_of, table_slot, used_record, records_of}
 use Rattle.volume_model.specs.Volumes.{Volume, record_bytes}
 use Rattle.stream_laws.specs.Changes.{LeavesRecord}
 use Rattle.stream_laws.specs.Places.{AreOnce}

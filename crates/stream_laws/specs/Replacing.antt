@@ -1,12 +1,12 @@
 -- What the wholes of a volume become where files are replaced.
 use Rattle.std.specs.Prelude.{◌≡◌, ◌≢◌, ℕ, ◌+◌, ◌<◌, List, [], ◌∷◌, length, slice_set, Option, ⊤}
 use Rattle.std.specs.List.{sum_by, AllByRecursion}
-use Rattle.host_base.specs.declared.file_ref.FileRef.{FileRef}
-use Rattle.record_model.specs.Records.{Record}
-use Rattle.file_tree.specs.declared.link.Link.{Link}
-use Rattle.state_model.specs.Files.{Table, only_base, file_links, links_at}
-use Rattle.state_model.specs.Loads.{table_in}
-use Rattle.state_model.specs.Rules.{count_in, names_in}
+use Rattle.volume_model.specs.host_base.declared.file_ref.FileRef.{FileRef}
+use Rattle.volume_model.specs.record_model.Records.{Record}
+use Rattle.volume_model.specs.file_tree.declared.link.Link.{Link}
+use Rattle.volume_model.specs.state_model.Files.{Table, only_base, file_links, links_at}
+use Rattle.volume_model.specs.state_model.Loads.{table_in}
+use Rattle.volume_model.specs.state_model.Rules.{count_in, names_in}
 use Rattle.volume_model.specs.Owners.{file_runs, volume_runs, uses}
 
 -- ---- one file

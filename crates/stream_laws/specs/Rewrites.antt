@@ -1,20 +1,20 @@
 -- The volume after some records of its file table are rewritten.
 use Rattle.std.specs.Prelude.{◌≡◌, ℕ, ◌-◌, ◌*◌, ◌<◌, ◌≤◌, Bool, true, false, ◌==◌, nat_le, if◌then◌else◌, List, ◌++◌, length, map, replicate, slice_set, Option, Some, None, Ok, ⊤}
 use Rattle.std.specs.List.{list_any, range_with_len, AllByRecursion}
-use Rattle.disk_model.specs.declared.block.Block.{Block}
-use Rattle.disk_model.specs.declared.block.Body.{Body}
-use Rattle.disk_model.specs.declared.block.BlockKind.TheVariants.{FileRec}
-use Rattle.disk_model.specs.Bytes.{zeros}
-use Rattle.disk_model.specs.Content.{Content, HasSizes, is_signed}
-use Rattle.disk_model.specs.Writes.{Write, overlay}
-use Rattle.record_model.specs.declared.list_entry.ListEntry.{ListEntry}
-use Rattle.record_model.specs.Records.{Record}
-use Rattle.record_model.specs.Constants.{attribute_list}
-use Rattle.state_model.specs.declared.geometry.Geometry.{Geometry}
-use Rattle.state_model.specs.declared.stream.Extents.{Extents}
-use Rattle.state_model.specs.Files.{only_base, has_type}
-use Rattle.state_model.specs.Streams.{block_at, has_cut_block}
-use Rattle.state_model.specs.Loads.{Slot, Torn, Free, Broken, Used, slot_of, boot_block, record_count, most_records, table_extents, table_of, table_slot, used_record, table_in, list_stream, entries_of, cuts_index}
+use Rattle.volume_model.specs.disk_model.declared.block.Block.{Block}
+use Rattle.volume_model.specs.disk_model.declared.block.Body.{Body}
+use Rattle.volume_model.specs.disk_model.declared.block.BlockKind.TheVariants.{FileRec}
+use Rattle.volume_model.specs.disk_model.Bytes.{zeros}
+use Rattle.volume_model.specs.disk_model.Content.{Content, HasSizes, is_signed}
+use Rattle.volume_model.specs.disk_model.Writes.{Write, overlay}
+use Rattle.volume_model.specs.record_model.declared.list_entry.ListEntry.{ListEntry}
+use Rattle.volume_model.specs.record_model.Records.{Record}
+use Rattle.volume_model.specs.record_model.Constants.{attribute_list}
+use Rattle.volume_model.specs.state_model.declared.geometry.Geometry.{Geometry}
+use Rattle.volume_model.specs.state_model.declared.stream.Extents.{Extents}
+use Rattle.volume_model.specs.state_model.Files.{only_base, has_type}
+use Rattle.volume_model.specs.state_model.Streams.{block_at, has_cut_block}
+use Rattle.volume_model.specs.state_model.Loads.{Slot, Torn, Free, Broken, Used, slot_of, boot_block, record_count, most_records, table_extents, table_of, table_slot, used_record, table_in, list_stream, entries_of, cuts_index}
 use Rattle.volume_model.specs.Volumes.{Volume, volume_of, count_of, record_bytes}
 use Rattle.stream_laws.specs.Frames.{SameBytesInSome, SameRecordIn}
 use Rattle.stream_laws.specs.Changes.{LeavesBytes, LeavesRecord}

@@ -1,15 +1,15 @@
 -- No two streams of a volume have a block in common, where no cluster lies in two streams.
 use Rattle.std.specs.Prelude.{◌≡◌, ◌≢◌, ℕ, ◌<◌, ◌≤◌, false, List, [], slice_get, Option, Some, None}
 use Rattle.std.specs.List.{flat_map}
-use Rattle.disk_model.specs.declared.block.Block.{Block}
-use Rattle.disk_model.specs.declared.block.BlockKind.{BlockKind}
-use Rattle.disk_model.specs.Sectors.{overlap}
-use Rattle.record_model.specs.declared.attribute.Attr.{Attr}
-use Rattle.record_model.specs.declared.runs.Run.{Run}
-use Rattle.record_model.specs.Records.{Record}
-use Rattle.state_model.specs.declared.stream.Stream.{Stream}
-use Rattle.state_model.specs.declared.stream.Stream.TheVariants.{Held, Placed}
-use Rattle.state_model.specs.Streams.{attribute_runs, block_at}
+use Rattle.volume_model.specs.disk_model.declared.block.Block.{Block}
+use Rattle.volume_model.specs.disk_model.declared.block.BlockKind.{BlockKind}
+use Rattle.volume_model.specs.disk_model.Sectors.{overlap}
+use Rattle.volume_model.specs.record_model.declared.attribute.Attr.{Attr}
+use Rattle.volume_model.specs.record_model.declared.runs.Run.{Run}
+use Rattle.volume_model.specs.record_model.Records.{Record}
+use Rattle.volume_model.specs.state_model.declared.stream.Stream.{Stream}
+use Rattle.volume_model.specs.state_model.declared.stream.Stream.TheVariants.{Held, Placed}
+use Rattle.volume_model.specs.state_model.Streams.{attribute_runs, block_at}
 use Rattle.volume_model.specs.Volumes.{Volume, file_in, file_stream}
 use Rattle.volume_model.specs.Owners.{volume_runs, uses}
 use Rattle.stream_laws.specs.Places.{AreOnce, AreApart}

@@ -1,12 +1,12 @@
 -- The file table as a stream of its volume.
 use Rattle.std.specs.Prelude.{◌≡◌, ◌≢◌, ℕ, [], Some, Ok}
-use Rattle.disk_model.specs.declared.block.BlockKind.TheVariants.{FileRec}
-use Rattle.disk_model.specs.Content.{Content}
-use Rattle.record_model.specs.Records.{Record}
-use Rattle.record_model.specs.Constants.{data_type}
-use Rattle.state_model.specs.declared.geometry.Geometry.{Geometry}
-use Rattle.state_model.specs.Streams.{block_at}
-use Rattle.state_model.specs.Loads.{boot_block, extents_or}
+use Rattle.volume_model.specs.disk_model.declared.block.BlockKind.TheVariants.{FileRec}
+use Rattle.volume_model.specs.disk_model.Content.{Content}
+use Rattle.volume_model.specs.record_model.Records.{Record}
+use Rattle.volume_model.specs.record_model.Constants.{data_type}
+use Rattle.volume_model.specs.state_model.declared.geometry.Geometry.{Geometry}
+use Rattle.volume_model.specs.state_model.Streams.{block_at}
+use Rattle.volume_model.specs.state_model.Loads.{boot_block, extents_or}
 use Rattle.volume_model.specs.Volumes.{Volume, volume_of, file_in, table_file}
 use Rattle.volume_model.specs.Owners.{volume_runs}
 use Rattle.stream_laws.specs.Places.{AreOnce, AreApart}

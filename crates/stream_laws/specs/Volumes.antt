@@ -1,12 +1,12 @@
 -- When a volume stays: where two contents agree on the blocks that its file table is read from, it is the same volume.
 use Rattle.std.specs.Prelude.{◌≡◌, ℕ, ◌<◌, List, Option, Some, Ok}
-use Rattle.disk_model.specs.Content.{Content, HasSizes}
-use Rattle.disk_model.specs.Writes.{Write, overlay}
-use Rattle.record_model.specs.Records.{Record}
-use Rattle.state_model.specs.declared.geometry.Geometry.{Geometry}
-use Rattle.state_model.specs.declared.stream.Extents.{Extents}
-use Rattle.state_model.specs.Files.{file_at}
-use Rattle.state_model.specs.Loads.{boot_block, record_count, table_of, table_slot, records_of, table_in, list_stream, data_stream, files_in}
+use Rattle.volume_model.specs.disk_model.Content.{Content, HasSizes}
+use Rattle.volume_model.specs.disk_model.Writes.{Write, overlay}
+use Rattle.volume_model.specs.record_model.Records.{Record}
+use Rattle.volume_model.specs.state_model.declared.geometry.Geometry.{Geometry}
+use Rattle.volume_model.specs.state_model.declared.stream.Extents.{Extents}
+use Rattle.volume_model.specs.state_model.Files.{file_at}
+use Rattle.volume_model.specs.state_model.Loads.{boot_block, record_count, table_of, table_slot, records_of, table_in, list_stream, data_stream, files_in}
 use Rattle.volume_model.specs.Volumes.{Volume, volume_of, file_in, bytes_or, cluster_bitmap, record_bitmap, cluster_bits, record_bits}
 use Rattle.volume_model.specs.Nodes.{node_at}
 use Rattle.stream_laws.specs.Frames.{SameBytesInSome, SameRecordIn}

@@ -1,18 +1,18 @@
 -- Sums over the files of a volume that change where files are replaced: clusters by the kind of their blocks, live blocks, and names.
 use Rattle.std.specs.Prelude.{◌≡◌, ℕ, ◌+◌, ◌-◌, ◌*◌, ◌/◌, ◌%◌, ◌<◌, ◌≤◌, suc, Bool, false, ◌&&◌, ◌==◌, nat_le, nat_lt, if◌then◌else◌, List, [], ◌∷◌, length, count_by, Option, Some, None}
 use Rattle.std.specs.List.{sum_by}
-use Rattle.disk_model.specs.declared.block.Block.{Block}
-use Rattle.disk_model.specs.declared.block.BlockKind.{BlockKind}
-use Rattle.disk_model.specs.declared.block.BlockKind.TheVariants.{Plain, FileRec, Index}
-use Rattle.disk_model.specs.Sectors.{sectors, same_kind, HasSector}
-use Rattle.record_model.specs.declared.attribute.Attr.{Attr}
-use Rattle.record_model.specs.declared.runs.Run.{Run}
-use Rattle.record_model.specs.Records.{Record}
-use Rattle.file_tree.specs.declared.link.Link.{Link}
-use Rattle.state_model.specs.Files.{only_base, file_links}
-use Rattle.state_model.specs.Loads.{table_in}
-use Rattle.state_model.specs.Rules.{same_link}
-use Rattle.state_model.specs.Streams.{attribute_runs, stream_of}
+use Rattle.volume_model.specs.disk_model.declared.block.Block.{Block}
+use Rattle.volume_model.specs.disk_model.declared.block.BlockKind.{BlockKind}
+use Rattle.volume_model.specs.disk_model.declared.block.BlockKind.TheVariants.{Plain, FileRec, Index}
+use Rattle.volume_model.specs.disk_model.Sectors.{sectors, same_kind, HasSector}
+use Rattle.volume_model.specs.record_model.declared.attribute.Attr.{Attr}
+use Rattle.volume_model.specs.record_model.declared.runs.Run.{Run}
+use Rattle.volume_model.specs.record_model.Records.{Record}
+use Rattle.volume_model.specs.file_tree.declared.link.Link.{Link}
+use Rattle.volume_model.specs.state_model.Files.{only_base, file_links}
+use Rattle.volume_model.specs.state_model.Loads.{table_in}
+use Rattle.volume_model.specs.state_model.Rules.{same_link}
+use Rattle.volume_model.specs.state_model.Streams.{attribute_runs, stream_of}
 use Rattle.volume_model.specs.Volumes.{Volume}
 use Rattle.volume_model.specs.Owners.{volume_runs, uses}
 use Rattle.stream_laws.specs.Owners.{stream_kind, initialised_in, Owns}

@@ -3,7 +3,7 @@ use Rattle.std.proofs.Common.{◌≡◌, ℕ, ◌+◌, ◌-◌, ◌<◌, Bool, t
 use Rattle.std.specs.Prelude.{IfSome, if◌then◌else◌}
 use Rattle.std.proofs.lemmas.List.{length-drop, drop-drop}
 use Rattle.std.proofs.lemmas.List.FromFn.{length-map-range_with_len}
-use Rattle.host_base.proofs.Known.{one, always}
+use Rattle.disk_model.proofs.host_base.Known.{one, always}
 use Rattle.disk_model.specs.Content.{Content}
 use Rattle.disk_model.specs.Numbers.{field}
 use Rattle.record_model.specs.ListEntries.{has_entry, entry_of, with_entry, list_entries}

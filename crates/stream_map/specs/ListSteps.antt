@@ -1,6 +1,6 @@
 -- One step over the bytes of an attribute list.
 use Rattle.std.specs.Prelude.{◌≡◌, ℕ, ◌+◌, ◌<◌, ◌≤◌, true, false, List, [], drop, Result, IfErr, OnOk}
-use Rattle.host_base.specs.Causes.{Rose}
+use Rattle.disk_model.specs.host_base.Causes.{Rose}
 use Rattle.block_view.specs.declared.fault.ViewFault.{ViewFault}
 use Rattle.block_view.specs.declared.fault.ViewFault.TheVariants as fault
 use Rattle.disk_model.specs.Numbers.{field}

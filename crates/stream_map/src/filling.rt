@@ -1,6 +1,6 @@
 ghost use Rattle.std.specs.Prelude.{◌≡◌, ◌+◌, ◌-◌, ◌/◌, ◌%◌, ◌^◌, ◌≤◌, ◌++◌, length, take, drop, map, min, OnOk, IsOk, IfErr, IfSome};
 ghost use Rattle.std.specs.List.{range_with_len};
-ghost use Rattle.host_base.specs.Causes.{HasCause};
+ghost use Rattle.disk_model.specs.host_base.Causes.{HasCause};
 ghost use Rattle.disk_model.specs.Bytes.{zeros};
 ghost use Rattle.disk_model.specs.declared.block.BlockKind.TheVariants.{Plain};
 ghost use Rattle.block_view.specs.declared.fault.ViewFault.TheVariants.{Fault};

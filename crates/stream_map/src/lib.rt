@@ -18,13 +18,14 @@ mod places;
 mod stream;
 
 pub use attributes::{attributes_of, first_vcn, is_attribute_of};
-pub use block_view::{Block, BlockKind, Body, View, ViewFault};
+pub use block_view::{Block, BlockKind, Body, Change, Overlay, View, ViewFault};
+pub use disk_model::u16_at;
 pub use filling::{fill, front};
-pub use host_base::Memory;
 pub use list_cursor::next_entry;
 pub use list_front::{FRONT_BYTES, FirstEntry, first_entry};
 pub use list_step::Step;
+pub use mapping_pairs::{read, write};
 pub use places::{block_at, has_cut_block, is_hole};
-pub use record_model::ListEntry;
-pub use state_model::{Extents, Stream};
+pub use record_model::{ListEntry, Run, Runs};
+pub use state_model::{ClusterSize, Extents, Memory, Stream, is_same_link};
 pub use stream::{no_extents, push_runs, real_size, runs_or, stream_of};

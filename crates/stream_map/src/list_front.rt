@@ -3,8 +3,8 @@ ghost use Rattle.record_model.specs.ListEntries.{name_end, entry_of};
 ghost use Rattle.stream_map.specs.ListFronts.{front_of, has_entry_in, first_entry};
 
 use disk_model::{u8_at, u16_at, u32_at, u64_at};
-use host_base::FileRef;
 use record_model::{ListEntry, units_at};
+use state_model::FileRef;
 use std::alloc::{AllocError, Global};
 
 /// So many bytes have each field of an entry, and its name, which begins before byte 256 and has at

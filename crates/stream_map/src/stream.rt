@@ -6,9 +6,8 @@ ghost use Rattle.stream_map.specs.Attributes.{behind};
 ghost use Rattle.state_model.specs.Loads.{no_extents};
 
 use super::attributes::attributes_of;
-use host_base::Memory;
 use record_model::{Attr, OwnForm, PairsFault, Runs};
-use state_model::{Extents, Stream};
+use state_model::{Extents, Memory, Stream};
 use std::alloc::Global;
 
 /// The runs that mapping pairs spell from this first VCN on (Linux-NTFS documentation, "Data

@@ -3,8 +3,8 @@ use Rattle.std.proofs.Common.{◌≡◌, ℕ, ◌+◌, ◌<◌, List, ◌∷◌,
 use Rattle.std.specs.List.{flat_map}
 use Rattle.std.proofs.lemmas.List.{append_assoc, drop_more}
 use Rattle.std.proofs.lemmas.List.Concat.{flat_map-cons}
-use Rattle.record_model.specs.declared.runs.Run.{Run}
-use Rattle.record_model.specs.declared.attribute.Attr.{Attr}
+use Rattle.stream_map.specs.record_model.declared.runs.Run.{Run}
+use Rattle.stream_map.specs.record_model.declared.attribute.Attr.{Attr}
 use Rattle.state_model.specs.Streams.{form_runs, attribute_runs}
 
 -- one more of a list whose items have runs

@@ -2,7 +2,7 @@
 use Rattle.std.proofs.Common.{◌≡◌, ℕ, ◌+◌, ◌<◌, Bool, true, false, eqb, ltb, List, length, get_or, drop, Bor, sym, ap, ◌∙◌, arith}
 use Rattle.std.specs.Prelude.{◌&&◌}
 use Rattle.std.proofs.lemmas.Bool.{and_from, and_left, and_parts, false_from_ne_true, eq-eqb, eqb-true, lt-ltb, ltb-true}
-use Rattle.record_model.specs.declared.attribute.Attr.{Attr}
+use Rattle.stream_map.specs.record_model.declared.attribute.Attr.{Attr}
 use Rattle.state_model.specs.Streams.{first_vcn, form_runs, attribute_runs}
 use Rattle.state_model.specs.Loads.{total_clusters}
 use Rattle.stream_map.specs.Attributes.{behind}

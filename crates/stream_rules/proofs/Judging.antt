@@ -1,7 +1,7 @@
 -- What is found in places, as the least cluster below a count at which a rule of runs is broken.
 use Rattle.std.proofs.Common.{◌≡◌, ℕ, ◌<◌, ◌≤◌, Bool, true, List, length, Option, Some, None, MatchOption, subst, inl, inr, arith}
 use Rattle.std.proofs.lemmas.Bool.{cases_lt, le-leb, lt-leb, or_left, or_right, or_from, not_from_true, not_from_false}
-use Rattle.record_model.specs.declared.runs.Run.{Run}
+use Rattle.stream_map.specs.record_model.declared.runs.Run.{Run}
 use Rattle.bit_set.specs.Bits.{bit}
 use Rattle.state_model.specs.Rules.{first_failing}
 use Rattle.volume_model.specs.Owners.{uses, keeps_owner, keeps_cluster_bit}

@@ -11,7 +11,7 @@ use Rattle.disk_model.specs.declared.block.Block.{Block}
 use Rattle.disk_model.specs.declared.block.BlockKind.{BlockKind}
 use Rattle.disk_model.specs.declared.block.BlockKind.TheVariants.{Plain, FileRec, Index}
 use Rattle.disk_model.specs.Sectors.{sectors}
-use Rattle.record_model.specs.declared.runs.Run.{Run}
+use Rattle.stream_map.specs.record_model.declared.runs.Run.{Run}
 use Rattle.state_model.specs.Streams.{holds, lcn_in, block_at}
 use Rattle.volume_model.specs.Sizes.{is_torn_at}
 

@@ -3,7 +3,7 @@ use Rattle.std.proofs.Common.{◌≡◌, ℕ, ◌+◌, ◌<◌, cond, List, [], 
 use Rattle.std.specs.List.Sorted.{IsPermutation}
 use Rattle.std.proofs.lemmas.List.Elements.{All-nil, All-push}
 use Rattle.std.proofs.lemmas.List.Sums.{sum_by_more}
-use Rattle.record_model.specs.declared.runs.Run.{Run}
+use Rattle.stream_map.specs.record_model.declared.runs.Run.{Run}
 use Rattle.volume_model.specs.Owners.{covers, uses}
 use Rattle.stream_rules.specs.declared.places.Place.{Place}
 use Rattle.stream_rules.specs.Places.{is_in_some, times, IsBelow, AreBelow}

@@ -7,7 +7,7 @@ use Rattle.host_base.proofs.Known.{one, always}
 use Rattle.disk_model.specs.Content.{Content}
 use Rattle.disk_model.specs.declared.block.BlockKind.{BlockKind}
 use Rattle.disk_model.specs.Sectors.{sectors}
-use Rattle.record_model.specs.Records.{Record}
+use Rattle.stream_map.specs.record_model.Records.{Record}
 use Rattle.state_model.specs.declared.stream.Extents.{Extents}
 use Rattle.state_model.specs.declared.stream.Stream.{Stream}
 use Rattle.state_model.specs.declared.stream.Stream.TheVariants.{Placed}

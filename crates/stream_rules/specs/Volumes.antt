@@ -1,6 +1,6 @@
 -- A volume by its parts.
 use Rattle.std.specs.Prelude.{ℕ, List, Option}
-use Rattle.record_model.specs.Records.{Record}
+use Rattle.stream_map.specs.record_model.Records.{Record}
 use Rattle.state_model.specs.declared.stream.Extents.{Extents}
 use Rattle.volume_model.specs.Volumes.{Volume}
 

@@ -4,8 +4,7 @@ ghost use Rattle.std.specs.List.{list_all, list_any};
 ghost use Rattle.volume_model.specs.Sizes.{lies_below, lies_inside, has_sizes, fits_volume, is_hole, has_hole, is_initialised};
 
 use crate::joins::total_clusters;
-use record_model::Run;
-use state_model::{ClusterSize, Extents, Stream};
+use state_model::{ClusterSize, Extents, Run, Stream};
 use stream_map::is_hole;
 
 // Whether a run lies below so many clusters, or is sparse.

@@ -6,7 +6,7 @@ ghost use Rattle.volume_model.specs.Owners.{file_runs, volume_runs};
 
 use file_record::FileRec;
 use host_base::Memory;
-use record_model::{Attr, Runs};
+use state_model::{Attr, Runs};
 use std::alloc::Global;
 use stream_map::push_runs;
 

@@ -6,7 +6,7 @@ ghost use Rattle.stream_map.specs.Attributes.{behind};
 ghost use Rattle.volume_model.specs.Sizes.{follow, are_joined};
 
 use host_base::Memory;
-use record_model::{Attr, OwnForm, Run};
+use state_model::{Attr, OwnForm, Run};
 use std::alloc::Global;
 use stream_map::{attributes_of, first_vcn, runs_or};
 

@@ -7,8 +7,7 @@ ghost use Rattle.volume_model.specs.Sizes.{are_joined, fits_volume, keeps_stream
 use crate::fitting::fits_volume;
 use crate::joins::is_joined;
 use host_base::Memory;
-use record_model::{Attr, FILE_NAME};
-use state_model::ClusterSize;
+use state_model::{Attr, ClusterSize, FILE_NAME};
 use std::alloc::Global;
 use stream_map::stream_of;
 

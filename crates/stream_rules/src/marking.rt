@@ -9,7 +9,7 @@ ghost use Rattle.stream_rules.specs.Places.{AreBelow, AreRising, times};
 use crate::places::{Place, sorted_places};
 use bit_set::BitSet;
 use host_base::Memory;
-use record_model::Run;
+use state_model::Run;
 use std::alloc::Global;
 
 // The least clear bit from this one on, or the count of the bits where there is none.

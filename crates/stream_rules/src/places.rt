@@ -4,7 +4,7 @@ ghost use Rattle.volume_model.specs.Owners.{covers, uses};
 ghost use Rattle.stream_rules.specs.Places.{IsBelow, AreBelow, AreRising, is_in_some, times};
 
 use host_base::Memory;
-use record_model::Run;
+use state_model::Run;
 use std::alloc::{AllocError, Global};
 
 /// The clusters from `first` on, below `end`.

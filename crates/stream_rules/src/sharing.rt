@@ -7,7 +7,7 @@ ghost use Rattle.stream_rules.specs.Places.{HaveSome, AreRising, times};
 
 use crate::places::{Place, sorted_places};
 use host_base::Memory;
-use record_model::Run;
+use state_model::Run;
 use std::alloc::Global;
 
 // The least cluster that two of the places have: the first one of the first place that begins

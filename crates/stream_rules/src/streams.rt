@@ -2,7 +2,7 @@
 ghost use Rattle.std.specs.Prelude.{◌≡◌, ◌&&◌, List, Option, Ok, IfOk, IfSome};
 ghost use Rattle.std.specs.List.{list_all};
 ghost use Rattle.host_base.specs.Answers.{GivesOrFails};
-ghost use Rattle.record_model.specs.Records.{Record as a_record};
+ghost use Rattle.stream_map.specs.record_model.Records.{Record as a_record};
 ghost use Rattle.stream_rules.specs.Errors.{sizes_cause};
 ghost use Rattle.block_view.specs.Views.{AsksView};
 ghost use Rattle.stream_rules.specs.Volumes.{TablePlace, volume_with};

@@ -3,11 +3,11 @@ ghost use Rattle.std.specs.Prelude.{◌≡◌, ◌==◌, ◌+◌, ◌*◌, ◌^�
 ghost use Rattle.std.specs.List.{list_any, range_with_len};
 ghost use Rattle.disk_model.specs.declared.block.BlockKind.TheVariants.{FileRec as file_kind, Index as index_kind};
 ghost use Rattle.disk_model.specs.Sectors.{sectors};
-ghost use Rattle.record_model.specs.Constants.{data_type, names_index, index_allocation};
+ghost use Rattle.stream_map.specs.record_model.Constants.{data_type, names_index, index_allocation};
 ghost use Rattle.state_model.specs.Files.{is_directory_record};
 ghost use Rattle.state_model.specs.Rules.{implies};
 ghost use Rattle.state_model.specs.Streams.{holds, block_at, stream_of};
-ghost use Rattle.record_model.specs.Runs.{AreSmall};
+ghost use Rattle.stream_map.specs.record_model.Runs.{AreSmall};
 ghost use Rattle.stream_rules.specs.Errors.{sizes_cause};
 ghost use Rattle.block_view.specs.Views.{AsksView};
 ghost use Rattle.volume_model.specs.Sizes.{is_torn_at, begun, stream_has_torn, keeps_untorn};
@@ -18,8 +18,7 @@ use crate::whole::{MIRROR, TABLE, is_directory};
 use block_view::View;
 use disk_model::{BlockKind, Body};
 use file_record::FileRec;
-use record_model::{Attr, DATA, INDEX_ALLOCATION, NAMES_INDEX, Run};
-use state_model::{ClusterSize, Stream};
+use state_model::{Attr, ClusterSize, DATA, INDEX_ALLOCATION, NAMES_INDEX, Run, Stream};
 use std::alloc::Global;
 use stream_map::{block_at, stream_of};
 

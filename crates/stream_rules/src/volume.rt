@@ -1,7 +1,7 @@
 //! What the streams of all files keep, and the lengths of the bitmaps.
 ghost use Rattle.std.specs.Prelude.{◌≡◌, ◌==◌, ◌*◌, ◌&&◌, [], nat_le, max, length, Ok, IfOk, IfSome};
 ghost use Rattle.host_base.specs.Answers.{GivesOrFails};
-ghost use Rattle.record_model.specs.Constants.{data_type, bitmap_type};
+ghost use Rattle.stream_map.specs.record_model.Constants.{data_type, bitmap_type};
 ghost use Rattle.state_model.specs.Files.{file_at};
 ghost use Rattle.state_model.specs.Loads.{table_in};
 ghost use Rattle.state_model.specs.Rules.{implies, at_file, first_failing};
@@ -18,8 +18,7 @@ use block_view::View;
 use disk_model::Body;
 use file_record::{FileRec, file_at};
 use host_base::Memory;
-use record_model::{BITMAP_TYPE, DATA};
-use state_model::{ClusterSize, Stream};
+use state_model::{BITMAP_TYPE, ClusterSize, DATA, Stream};
 use std::alloc::Global;
 use stream_map::{real_size, stream_of};
 

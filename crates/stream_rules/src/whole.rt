@@ -1,7 +1,7 @@
 //! The streams of the volume itself and of indexes: no sparse run, and the file table is
 //! initialised.
 ghost use Rattle.std.specs.Prelude.{◌≡◌, ◌==◌, ◌&&◌, not, [], IfOk};
-ghost use Rattle.record_model.specs.Constants.{data_type, names_index, index_allocation, bitmap_type};
+ghost use Rattle.stream_map.specs.record_model.Constants.{data_type, names_index, index_allocation, bitmap_type};
 ghost use Rattle.state_model.specs.Files.{is_directory_record};
 ghost use Rattle.state_model.specs.Rules.{implies};
 ghost use Rattle.state_model.specs.Streams.{stream_of};
@@ -11,7 +11,7 @@ ghost use Rattle.volume_model.specs.Volumes.{table_file};
 use crate::fitting::{has_hole, is_initialised};
 use file_record::FileRec;
 use host_base::Memory;
-use record_model::{Attr, BITMAP_TYPE, DATA, INDEX_ALLOCATION, NAMES_INDEX, RecordFlags};
+use state_model::{Attr, BITMAP_TYPE, DATA, INDEX_ALLOCATION, NAMES_INDEX, RecordFlags};
 use std::alloc::Global;
 use stream_map::stream_of;
 

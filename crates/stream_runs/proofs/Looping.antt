@@ -4,10 +4,10 @@ use Rattle.std.specs.Prelude.{option_map, slice_get, All, IfSome}
 use Rattle.std.proofs.lemmas.Bool.{ne_eqb}
 use Rattle.std.proofs.lemmas.List.{append_assoc, append-nil}
 use Rattle.std.proofs.lemmas.List.Elements.{All-nil, All-cons, All-weaker}
-use Rattle.record_model.specs.declared.runs.Run.{Run}
-use Rattle.record_model.specs.Pairs.{cluster_limit, Follow}
-use Rattle.record_model.specs.Runs.{IsSmall, AreSmall}
-use Rattle.state_model.specs.Loads.{total_clusters}
+use Rattle.volume_model.specs.record_model.declared.runs.Run.{Run}
+use Rattle.volume_model.specs.record_model.Pairs.{cluster_limit, Follow}
+use Rattle.volume_model.specs.record_model.Runs.{IsSmall, AreSmall}
+use Rattle.volume_model.specs.state_model.Loads.{total_clusters}
 use Rattle.stream_runs.specs.Runs.{touches, in_front, merged, front, last_cluster, IsNear}
 use Rattle.stream_runs.proofs.Merging.{both, merge_both, merge_parted, merged-cons, merged-nil}
 use Rattle.stream_runs.proofs.Places.{cut, kept, front_whole, front_cut}

@@ -4,9 +4,9 @@ use Rattle.std.specs.Prelude.{◌==◌, IfSome}
 use Rattle.std.proofs.lemmas.Bool.{eqb-true}
 use Rattle.std.proofs.lemmas.Bool.Decides.{nat_tests}
 use Rattle.std.proofs.lemmas.List.Sums.{sum_by-cons, sum_by-append}
-use Rattle.record_model.specs.declared.runs.Run.{Run}
-use Rattle.record_model.specs.Pairs.{cluster_limit, IsNext, Follow, HasSpelling}
-use Rattle.state_model.specs.Loads.{total_clusters}
+use Rattle.volume_model.specs.record_model.declared.runs.Run.{Run}
+use Rattle.volume_model.specs.record_model.Pairs.{cluster_limit, IsNext, Follow, HasSpelling}
+use Rattle.volume_model.specs.state_model.Loads.{total_clusters}
 use Rattle.volume_model.specs.Owners.{covers, covers_from, uses}
 use Rattle.stream_runs.specs.Runs.{touches, in_front, merged, moved, grown}
 use Rattle.stream_runs.specs.Laws.{AreParted}

@@ -2,13 +2,13 @@
 use Rattle.std.proofs.Common.{◌≡◌, ℕ, ◌+◌, ◌-◌, ◌*◌, ◌/◌, ◌%◌, ◌^◌, ◌<◌, ◌≤◌, Bool, true, false, cond, eqb, leb, ltb, List, [], ◌∷◌, ◌++◌, map, Option, Some, None, refl, sym, ap, ◌∙◌, subst, inl, inr, arith}
 use Rattle.std.specs.Prelude.{option_map, find}
 use Rattle.std.proofs.lemmas.Bool.{cases_lt, eqb-true, and_parts, and_from, and_cases, and_left, and_right, leb-true, ltb-true, le-leb, lt-ltb, le-ltb, lt-leb, leb-false, ltb-false, cases_Bool}
-use Rattle.disk_model.specs.declared.block.Block.{Block}
-use Rattle.disk_model.specs.declared.block.BlockKind.{BlockKind}
-use Rattle.disk_model.specs.Sectors.{sectors}
-use Rattle.record_model.specs.declared.runs.Run.{Run}
-use Rattle.record_model.specs.Pairs.{cluster_limit, Follow, HasSpelling}
-use Rattle.state_model.specs.Loads.{total_clusters}
-use Rattle.state_model.specs.Streams.{holds, lcn_in, block_at}
+use Rattle.volume_model.specs.disk_model.declared.block.Block.{Block}
+use Rattle.volume_model.specs.disk_model.declared.block.BlockKind.{BlockKind}
+use Rattle.volume_model.specs.disk_model.Sectors.{sectors}
+use Rattle.volume_model.specs.record_model.declared.runs.Run.{Run}
+use Rattle.volume_model.specs.record_model.Pairs.{cluster_limit, Follow, HasSpelling}
+use Rattle.volume_model.specs.state_model.Loads.{total_clusters}
+use Rattle.volume_model.specs.state_model.Streams.{holds, lcn_in, block_at}
 use Rattle.stream_runs.specs.Runs.{touches, in_front, merged, moved, grown, front}
 use Rattle.stream_runs.specs.Laws.{InOneCluster}
 use Rattle.stream_runs.proofs.Merging.{both, merged-cons, follow-merged, follow-append, follow-moved}

@@ -1,11 +1,11 @@
 -- What runs keep that are joined where they touch, that go on behind others, or of which the first are taken.
 use Rattle.std.specs.Prelude.{◌≡◌, ⊤, ℕ, ◌+◌, ◌-◌, ◌*◌, ◌/◌, ◌<◌, ◌≤◌, false, min, List, [], ◌∷◌, ◌++◌, map, None}
-use Rattle.disk_model.specs.declared.block.BlockKind.{BlockKind}
-use Rattle.disk_model.specs.Sectors.{sectors}
-use Rattle.record_model.specs.declared.runs.Run.{Run}
-use Rattle.record_model.specs.Pairs.{cluster_limit, Follow, HasSpelling}
-use Rattle.state_model.specs.Loads.{total_clusters}
-use Rattle.state_model.specs.Streams.{block_at}
+use Rattle.volume_model.specs.disk_model.declared.block.BlockKind.{BlockKind}
+use Rattle.volume_model.specs.disk_model.Sectors.{sectors}
+use Rattle.volume_model.specs.record_model.declared.runs.Run.{Run}
+use Rattle.volume_model.specs.record_model.Pairs.{cluster_limit, Follow, HasSpelling}
+use Rattle.volume_model.specs.state_model.Loads.{total_clusters}
+use Rattle.volume_model.specs.state_model.Streams.{block_at}
 use Rattle.volume_model.specs.Owners.{uses}
 use Rattle.stream_runs.specs.Runs.{touches, merged, moved, grown, front, back}
 

@@ -1,2 +1,3 @@
+pub use Rattle.volume_model.specs as volume_model
 pub mod Runs
 pub mod Laws

@@ -1,8 +1,8 @@
 -- The runs of a stream that comes to have more clusters, or fewer.
 use Rattle.std.specs.Prelude.{ℕ, ◌+◌, ◌-◌, ◌^◌, ◌<◌, IfSome, Bool, true, false, ◌==◌, nat_le, if◌then◌else◌, List, [], ◌∷◌, ◌++◌, map, Option, Some, None}
 use Rattle.std.specs.Option.{option_map}
-use Rattle.record_model.specs.declared.runs.Run.{Run}
-use Rattle.state_model.specs.Loads.{total_clusters}
+use Rattle.volume_model.specs.record_model.declared.runs.Run.{Run}
+use Rattle.volume_model.specs.state_model.Loads.{total_clusters}
 
 -- a run from one place on, so long, ends where a run at another place begins; sparse runs go on from one another
 abbrev pub touches : Option ℕ → ℕ → Option ℕ → Bool

@@ -1,13 +1,12 @@
 //! Runs that are joined where they touch, and runs that go on behind others.
 ghost use Rattle.std.specs.Prelude.{◌≡◌, ◌+◌, ◌<◌, ◌≤◌, ◌^◌, [], ◌∷◌, ◌++◌, map, IfOk, OnOk, OnErr};
-ghost use Rattle.record_model.specs.Pairs.{cluster_limit, HasSpelling};
-ghost use Rattle.record_model.specs.Runs.{IsSmall, AreSmall};
-ghost use Rattle.state_model.specs.Loads.{total_clusters};
+ghost use Rattle.volume_model.specs.record_model.Pairs.{cluster_limit, HasSpelling};
+ghost use Rattle.volume_model.specs.record_model.Runs.{IsSmall, AreSmall};
+ghost use Rattle.volume_model.specs.state_model.Loads.{total_clusters};
 ghost use Rattle.stream_runs.specs.Runs.{touches, in_front, merged, moved, grown};
 
-use host_base::Memory;
-use record_model::{Run, Runs};
 use std::alloc::{AllocError, Global};
+use volume_model::{Memory, Run, Runs};
 
 /// How many clusters runs have, those of sparse ones among them; linear in the runs. They are at
 /// most 2^32.

@@ -8,5 +8,5 @@ mod sharing;
 
 pub use joining::{grown, merged, total_clusters};
 pub use laws::{runs_are_joined, streams_grow, streams_shrink};
-pub use record_model::{Run, Runs};
 pub use sharing::{back, front, last_cluster};
+pub use volume_model::{Run, Runs};

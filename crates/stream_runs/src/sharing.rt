@@ -1,12 +1,11 @@
 //! Runs of which the first clusters are kept and the others given back.
 ghost use Rattle.std.specs.Prelude.{◌≡◌, ◌+◌, ◌<◌, ◌≤◌, ◌^◌, ◌∷◌, [], ◌++◌, IfOk, OnOk, All};
-ghost use Rattle.record_model.specs.Runs.{IsSmall, AreSmall};
-ghost use Rattle.record_model.specs.Pairs.{cluster_limit, HasSpelling};
+ghost use Rattle.volume_model.specs.record_model.Runs.{IsSmall, AreSmall};
+ghost use Rattle.volume_model.specs.record_model.Pairs.{cluster_limit, HasSpelling};
 ghost use Rattle.stream_runs.specs.Runs.{front, behind, back, last_cluster, IsNear};
 
-use host_base::Memory;
-use record_model::{Run, Runs};
 use std::alloc::{AllocError, Global};
+use volume_model::{Memory, Run, Runs};
 
 // The first so many clusters of runs, or all of them.
 fn front_of(alloc: Global, clusters: u64, runs: &[Run]) -> Result<Runs, Memory>

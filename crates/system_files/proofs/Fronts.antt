@@ -7,10 +7,10 @@ use Rattle.std.proofs.lemmas.Bool.Decides.{nat_tests}
 use Rattle.host_base.proofs.Known.{one, always}
 use Rattle.disk_model.specs.Content.{Content}
 use Rattle.disk_model.specs.Bytes.{zeros}
-use Rattle.state_model.specs.declared.stream.Stream.{Stream}
-use Rattle.state_model.specs.Streams.{stream_bytes, real_size}
-use Rattle.stream_map.proofs.ListReading.{length-stream_bytes}
-use Rattle.upcase_order.specs.Tables.{upcase_of, standard_table}
+use Rattle.record_rules.specs.state_model.declared.stream.Stream.{Stream}
+use Rattle.record_rules.specs.state_model.Streams.{stream_bytes, real_size}
+use Rattle.volume_map.proofs.stream_map.ListReading.{length-stream_bytes}
+use Rattle.volume_model.specs.upcase_order.Tables.{upcase_of, standard_table}
 use Rattle.volume_model.specs.Volumes.{table_or_standard}
 
 -- a front as long as the stream is all of it

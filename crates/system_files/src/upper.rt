@@ -1,7 +1,7 @@
 //! The table of upper-case units.
 ghost use Rattle.std.specs.Prelude.{◌≡◌, length, IfOk, IfErr, IfSome};
-ghost use Rattle.state_model.specs.Streams.{stream_bytes, real_size};
-ghost use Rattle.upcase_order.specs.Tables.{upcase_of, standard_table};
+ghost use Rattle.record_rules.specs.state_model.Streams.{stream_bytes, real_size};
+ghost use Rattle.volume_model.specs.upcase_order.Tables.{upcase_of, standard_table};
 ghost use Rattle.volume_map.specs.Maps.{volume_in};
 ghost use Rattle.system_files.specs.Errors.{upper_cause};
 ghost use Rattle.block_view.specs.Views.{AsksView};
@@ -9,12 +9,11 @@ ghost use Rattle.volume_model.specs.Volumes.{table_or_standard, upper_of};
 
 use block_view::{View, ViewFault};
 use disk_model::Body;
-use record_model::DATA;
-use state_model::{ClusterSize, Stream};
 use std::alloc::{AllocError, Global};
-use stream_map::{front, real_size};
-use upcase_order::{Upcase, UpcaseFault};
-use volume_map::{VolumeMap, file_stream, stream_or_empty};
+use volume_map::{
+    ClusterSize, DATA, Stream, VolumeMap, file_stream, front, real_size, stream_or_empty,
+};
+use volume_model::{Upcase, UpcaseFault};
 
 const UPCASE_FILE: u64 = 10;
 

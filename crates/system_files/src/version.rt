@@ -1,17 +1,14 @@
 //! The version of a volume.
 ghost use Rattle.std.specs.Prelude.{◌≡◌, ◌==◌, find};
 ghost use Rattle.std.specs.Option.{option_copied};
-ghost use Rattle.record_model.specs.declared.attribute.Attr.{Attr as the_attr};
-ghost use Rattle.record_model.specs.Constants.{volume_information};
-ghost use Rattle.record_model.specs.StdValues.{volume_info_of};
+ghost use Rattle.volume_map.specs.record_model.declared.attribute.Attr.{Attr as the_attr};
+ghost use Rattle.volume_map.specs.record_model.Constants.{volume_information};
+ghost use Rattle.volume_map.specs.record_model.StdValues.{volume_info_of};
 ghost use Rattle.volume_map.specs.Maps.{volume_in};
 ghost use Rattle.volume_state.specs.Versions.{no_version, info_or_none, form_info, attr_info, volume_info};
 
-use file_record::FileRec;
-use record_model::{Attr, OwnForm, VOLUME_INFORMATION, VolumeInfo};
 use record_rules::file_at;
-use std_values::FixedValue;
-use volume_map::VolumeMap;
+use volume_map::{Attr, FileRec, FixedValue, OwnForm, VOLUME_INFORMATION, VolumeInfo, VolumeMap};
 
 const VOLUME_FILE: u64 = 3;
 

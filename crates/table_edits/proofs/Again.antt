@@ -5,10 +5,10 @@ use Rattle.record_model.specs.declared.attribute.Attr.{Attr}
 use Rattle.record_model.specs.Records.{Record}
 use Rattle.state_model.specs.declared.stream.Extents.{Extents}
 use Rattle.state_model.specs.Streams.{is_attribute_of, attributes_of}
-use Rattle.record_streams.specs.Placing.{without_stream, with_stream, placed_attr, placed_first, placed_record}
-use Rattle.record_streams.proofs.Streams.{placed_is, first_passes, placed_one}
-use Rattle.record_values.specs.Values.{valued_attr, valued_first, valued_record}
-use Rattle.record_values.proofs.Valued.{values_put}
+use Rattle.plan_edits.specs.record_streams.Placing.{without_stream, with_stream, placed_attr, placed_first, placed_record}
+use Rattle.plan_edits.proofs.record_streams.Streams.{placed_is, first_passes, placed_one}
+use Rattle.plan_table.specs.record_values.Values.{valued_attr, valued_first, valued_record}
+use Rattle.plan_table.proofs.record_values.Valued.{values_put}
 
 passed_over : (kind : ℕ) (name : List ℕ) (a : Attr) (attrs : List Attr) → is_attribute_of kind name a ≡ true → without_stream kind name (a ∷ attrs) ≡ without_stream kind name attrs
 passed_over kind name a attrs is = ap (λ (t : Bool). cond (not t) (a ∷ without_stream kind name attrs) (without_stream kind name attrs)) is

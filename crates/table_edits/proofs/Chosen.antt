@@ -15,10 +15,10 @@ use Rattle.volume_model.specs.Owners.{uses}
 use Rattle.stream_laws.proofs.Sharing.{uses-none}
 use Rattle.stream_laws.specs.Places.{AreApart}
 use Rattle.stream_runs.specs.Runs.{last_cluster}
-use Rattle.resized_streams.specs.Resizing.{clusters_for}
-use Rattle.resized_streams.proofs.Chosen.{chosen_count, total_chosen}
-use Rattle.plan_growth.specs.Streams.{MayTake}
-use Rattle.plan_growth.proofs.Choosing.{may_be_taken}
+use Rattle.plan_edits.specs.resized_streams.Resizing.{clusters_for}
+use Rattle.plan_edits.proofs.resized_streams.Chosen.{chosen_count, total_chosen}
+use Rattle.plan_edits.specs.plan_growth.Streams.{MayTake}
+use Rattle.plan_edits.proofs.plan_growth.Choosing.{may_be_taken}
 use Rattle.draft_growth.specs.declared.table.Table.{Table}
 use Rattle.draft_growth.specs.Growing.{behind_records, bitmap_size, IsTable, more_for, numbers_in, space_of, table_clusters, wanted_for}
 use Rattle.draft_growth.proofs.Tables.{length-with_runs}

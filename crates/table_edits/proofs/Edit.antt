@@ -41,10 +41,10 @@ use Rattle.stream_laws.proofs.Placing.{lists_apart, one_place}
 use Rattle.stream_laws.proofs.Rewriting.{count_is, zeros_blank}
 use Rattle.stream_laws.proofs.Sharing.{stream_of_volume, streams_apart}
 use Rattle.stream_map.proofs.Reading.{kind-block_at}
-use Rattle.record_streams.specs.Placing.{placed_record}
-use Rattle.record_streams.proofs.Kept.{all_with, but_room_fits}
-use Rattle.record_values.specs.Values.{valued_attr, valued_first}
-use Rattle.resized_streams.specs.Resizing.{clusters_for, lengthened, unplaced}
+use Rattle.plan_edits.specs.record_streams.Placing.{placed_record}
+use Rattle.plan_edits.proofs.record_streams.Kept.{all_with, but_room_fits}
+use Rattle.plan_table.specs.record_values.Values.{valued_attr, valued_first}
+use Rattle.plan_edits.specs.resized_streams.Resizing.{clusters_for, lengthened, unplaced}
 use Rattle.draft_streams.specs.Parts.{touch_bytes}
 use Rattle.draft_streams.proofs.Effecting.{effects as bytes_effects}
 use Rattle.stream_runs.specs.Runs.{grown}
@@ -58,34 +58,34 @@ use Rattle.plan_draft.specs.declared.touched.Touched.{Touched}
 use Rattle.plan_draft.specs.Touching.{bodies_of}
 use Rattle.plan_draft.specs.Drafts.{drafted}
 use Rattle.plan_draft.proofs.Parts.{zeros_long}
-use Rattle.plan_model.specs.Drafts.{IsPut}
-use Rattle.plan_model.specs.Edits.{IsOwnedIn}
-use Rattle.plan_model.specs.Made.{ReadsAs}
-use Rattle.plan_model.proofs.Drafting.{per_is}
-use Rattle.plan_model.proofs.OneRecord.{OwnRecord, slot_begins}
-use Rattle.plan_growth.specs.Streams.{IsWritten, marks_streams, MayTake}
-use Rattle.plan_growth.proofs.Growing.{uses-grown}
-use Rattle.plan_growth.proofs.Ruled.{sizes_lawful}
+use Rattle.plan_edits.specs.plan_model.Drafts.{IsPut}
+use Rattle.plan_edits.specs.plan_model.Edits.{IsOwnedIn}
+use Rattle.plan_edits.specs.plan_model.Made.{ReadsAs}
+use Rattle.plan_edits.proofs.plan_model.Drafting.{per_is}
+use Rattle.plan_edits.proofs.plan_model.OneRecord.{OwnRecord, slot_begins}
+use Rattle.plan_edits.specs.plan_growth.Streams.{IsWritten, marks_streams, MayTake}
+use Rattle.plan_edits.proofs.plan_growth.Growing.{uses-grown}
+use Rattle.plan_edits.proofs.plan_growth.Ruled.{sizes_lawful}
 use Rattle.plan_table.specs.Growing.{BitmapBecomes, GrowsVolumeTable, IsOfTable, IsPutBlank, longer_table, numbers_key, table_record, with_bitmap}
 use Rattle.plan_table.proofs.Behind.{in_one, was_free}
 use Rattle.plan_table.proofs.Bits.{becomes_wider, IsWider}
 use Rattle.plan_table.proofs.Table.{numbers_fit, numbers_whole, table_fits, table_own, table_records}
 use Rattle.stream_runs.proofs.Merging.{follow-grown}
 use Rattle.stream_laws.proofs.Tabling.{inside_list, table_runs as runs_of_table}
-use Rattle.record_streams.proofs.Streams.{placed_others}
-use Rattle.plan_growth.proofs.Placed.{some_attributes}
+use Rattle.plan_edits.proofs.record_streams.Streams.{placed_others}
+use Rattle.plan_edits.proofs.plan_growth.Placed.{some_attributes}
 use Rattle.disk_model.proofs.Frames.{same_block-is}
 use Rattle.draft_streams.specs.Effects.{HasOwnSectors}
 use Rattle.draft_bits.specs.Effects.{IsKept, stream_bit}
 use Rattle.draft_bits.proofs.BitEffects.{byte_of, byte_there, drafted_body, same_bit}
-use Rattle.draft_numbers.specs.Numbers.{new_sequence}
-use Rattle.draft_records.specs.Records.{fits_room, is_past, has_mirror, record_block, written_record}
+use Rattle.draft_growth.specs.draft_numbers.Numbers.{new_sequence}
+use Rattle.plan_edits.specs.draft_records.Records.{fits_room, is_past, has_mirror, record_block, written_record}
 use Rattle.draft_runs.specs.Clusters.{PutsRuns}
 use Rattle.draft_runs.proofs.RunEffects.{runs_put}
-use Rattle.draft_bitmaps.specs.declared.bitmap.Bitmap.{Bitmap}
-use Rattle.draft_bitmaps.specs.Bitmaps.{bitmap_bit, own_bytes, PutsInto, with_record}
-use Rattle.draft_bitmaps.specs.Effects.{HasApartSectors, LiesInRun, PutsBitmap}
-use Rattle.draft_bitmaps.proofs.BitmapEffects.{bitmap_put, record_here}
+use Rattle.draft_growth.specs.draft_bitmaps.declared.bitmap.Bitmap.{Bitmap}
+use Rattle.draft_growth.specs.draft_bitmaps.Bitmaps.{bitmap_bit, own_bytes, PutsInto, with_record}
+use Rattle.draft_growth.specs.draft_bitmaps.Effects.{HasApartSectors, LiesInRun, PutsBitmap}
+use Rattle.draft_growth.proofs.draft_bitmaps.BitmapEffects.{bitmap_put, record_here}
 use Rattle.draft_growth.specs.declared.table.Table.{Table}
 use Rattle.draft_growth.specs.Effects.{HasOwnRecords}
 use Rattle.draft_growth.specs.Growing.{behind_records, bitmap_behind, bitmap_size, filled_up, in_file, larger, leaving, MayGrow, more_for, numbers_bytes, numbers_in, PutsOwners, PutsTable, roomier, standing, with_empty_records, with_leaving, with_room}
@@ -105,10 +105,10 @@ use Rattle.table_edits.proofs.Again.{placed_again}
 use Rattle.table_edits.proofs.Chosen.{both_apart, numbers_count, numbers_size, numbers_taken, own_count, own_size, own_taken}
 use Rattle.table_edits.proofs.Numbers.{IsLongerNumbers, longer_numbers, MayBecome}
 use Rattle.table_edits.proofs.Spelled.{both_spelled, IsSpelled, MayBeLonger}
-use Rattle.record_streams.specs.Fitting.{FitsButRoom, HasFields, IsPlaceable}
-use Rattle.record_streams.proofs.Fits.{fits_placed}
-use Rattle.resized_streams.proofs.Chosen.{grown_count, total_grown}
-use Rattle.draft_bitmaps.specs.Bitmaps.{IsBitmap}
+use Rattle.plan_edits.specs.record_streams.Fitting.{FitsButRoom, HasFields, IsPlaceable}
+use Rattle.plan_edits.proofs.record_streams.Fits.{fits_placed}
+use Rattle.plan_edits.proofs.resized_streams.Chosen.{grown_count, total_grown}
+use Rattle.draft_growth.specs.draft_bitmaps.Bitmaps.{IsBitmap}
 use Rattle.draft_growth.proofs.Fulls.{record_grown}
 use Rattle.table_edits.proofs.Steps.{away, behind, bitmap_file_goes, bitmap_goes, empties_go, in_zeros, IsComing, IsLeft, IsNone, IsOfBitmap, IsRecordFrom, leaving_goes, none_leaving, runs_as, runs_go, turned}
 use Rattle.table_edits.proofs.Ways.{becomes_of, filled_long, held_short, Leaves, size_small, Stays, ways}

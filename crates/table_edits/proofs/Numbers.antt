@@ -15,18 +15,18 @@ use Rattle.state_model.specs.Loads.{total_clusters}
 use Rattle.state_model.specs.Streams.{attributes_of, real_size}
 use Rattle.stream_laws.specs.Owners.{initialised_in}
 use Rattle.stream_laws.specs.Sharing.{runs_in}
-use Rattle.record_streams.specs.Placing.{placed_record}
-use Rattle.record_values.specs.Values.{valued_record}
-use Rattle.resized_streams.specs.Resizing.{clusters_for, lengthened, with_sizes}
+use Rattle.plan_edits.specs.record_streams.Placing.{placed_record}
+use Rattle.plan_table.specs.record_values.Values.{valued_record}
+use Rattle.plan_edits.specs.resized_streams.Resizing.{clusters_for, lengthened, with_sizes}
 use Rattle.plan_draft.specs.declared.touched.Touched.{Touched}
 use Rattle.plan_draft.proofs.Parts.{zeros_long}
-use Rattle.plan_growth.proofs.Growing.{total-grown}
+use Rattle.plan_edits.proofs.plan_growth.Growing.{total-grown}
 use Rattle.plan_table.specs.Growing.{BitmapBecomes, TakesBits, with_bitmap}
-use Rattle.draft_records.specs.Records.{fits_room}
-use Rattle.draft_bitmaps.specs.declared.bitmap.Bitmap.{Bitmap}
-use Rattle.draft_bitmaps.specs.Bitmaps.{byte_end, is_below, raised, with_value, with_extents, PutsPlacedBy, PutsInto}
-use Rattle.draft_bitmaps.specs.Effects.{room_in}
-use Rattle.draft_bitmaps.proofs.Room.{same_room}
+use Rattle.plan_edits.specs.draft_records.Records.{fits_room}
+use Rattle.draft_growth.specs.draft_bitmaps.declared.bitmap.Bitmap.{Bitmap}
+use Rattle.draft_growth.specs.draft_bitmaps.Bitmaps.{byte_end, is_below, raised, with_value, with_extents, PutsPlacedBy, PutsInto}
+use Rattle.draft_growth.specs.draft_bitmaps.Effects.{room_in}
+use Rattle.draft_growth.proofs.draft_bitmaps.Room.{same_room}
 use Rattle.draft_growth.specs.Growing.{bytes_for, placed_in, roomier, with_room}
 use Rattle.table_edits.proofs.Again.{placed_again, valued_again}
 

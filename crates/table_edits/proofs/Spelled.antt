@@ -18,17 +18,17 @@ use Rattle.state_model.specs.declared.stream.Stream.{Stream}
 use Rattle.state_model.specs.declared.stream.Stream.TheVariants.{Held, Placed}
 use Rattle.state_model.specs.Streams.{attributes_of, is_attribute_of}
 use Rattle.stream_runs.specs.Runs.{grown}
-use Rattle.record_streams.specs.Fitting.{HasFields}
-use Rattle.record_streams.specs.Placing.{held_clusters, held_size, placed_attr, placed_first, placed_record, with_stream, without_stream}
-use Rattle.record_streams.proofs.Fits.{fits_placed}
-use Rattle.record_values.proofs.Valued.{fits_valued}
-use Rattle.resized_streams.specs.Resizing.{lengthened}
+use Rattle.plan_edits.specs.record_streams.Fitting.{HasFields}
+use Rattle.plan_edits.specs.record_streams.Placing.{held_clusters, held_size, placed_attr, placed_first, placed_record, with_stream, without_stream}
+use Rattle.plan_edits.proofs.record_streams.Fits.{fits_placed}
+use Rattle.plan_table.proofs.record_values.Valued.{fits_valued}
+use Rattle.plan_edits.specs.resized_streams.Resizing.{lengthened}
 use Rattle.plan_draft.specs.declared.touched.Touched.{Touched}
 use Rattle.plan_draft.proofs.Parts.{zeros_long}
-use Rattle.draft_records.specs.Records.{fits_room, written_bytes}
-use Rattle.draft_bitmaps.specs.declared.bitmap.Bitmap.{Bitmap}
-use Rattle.draft_bitmaps.specs.Bitmaps.{is_below, IsBitmap, PutsInto, PutsPlacedBy, raised, with_extents, with_value}
-use Rattle.draft_bitmaps.specs.Effects.{room_in}
+use Rattle.plan_edits.specs.draft_records.Records.{fits_room, written_bytes}
+use Rattle.draft_growth.specs.draft_bitmaps.declared.bitmap.Bitmap.{Bitmap}
+use Rattle.draft_growth.specs.draft_bitmaps.Bitmaps.{is_below, IsBitmap, PutsInto, PutsPlacedBy, raised, with_extents, with_value}
+use Rattle.draft_growth.specs.draft_bitmaps.Effects.{room_in}
 use Rattle.draft_growth.specs.Growing.{roomier, with_room}
 use Rattle.table_edits.proofs.Again.{placed_again, valued_again}
 

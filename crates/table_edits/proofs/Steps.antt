@@ -18,7 +18,7 @@ use Rattle.volume_model.specs.Sizes.{lies_below, lies_inside}
 use Rattle.stream_laws.specs.Owners.{initialised_in}
 use Rattle.stream_laws.specs.Sharing.{runs_in}
 use Rattle.stream_map.proofs.Reading.{kind-block_at}
-use Rattle.record_streams.proofs.Kept.{but_room_fits}
+use Rattle.plan_edits.proofs.record_streams.Kept.{but_room_fits}
 use Rattle.plan_bodies.specs.Bodies.{NewBody, body_in, put_bodies}
 use Rattle.plan_bodies.proofs.Putting.{block_itself, either, all_in_both, are_bodies as both_are}
 use Rattle.plan_draft.specs.declared.touched.Touched.{Touched}
@@ -26,18 +26,18 @@ use Rattle.plan_draft.specs.Touching.{bodies_of, touch}
 use Rattle.plan_draft.proofs.Parts.{zeros_long}
 use Rattle.plan_draft.proofs.Puts.{bodies_touch, rises_touch, whole_touch}
 use Rattle.plan_draft.proofs.Same.{put_same}
-use Rattle.plan_model.specs.Drafts.{IsPut}
+use Rattle.plan_edits.specs.plan_model.Drafts.{IsPut}
 use Rattle.draft_streams.specs.Parts.{sector_count, touch_bytes, touch_sectors}
 use Rattle.draft_bits.specs.Filling.{first_past, PutsBits}
 use Rattle.draft_bits.specs.Effects.{IsKept}
-use Rattle.draft_records.specs.Records.{record_block, has_mirror, fits_room, touch_if, touch_record}
-use Rattle.draft_records.proofs.Steps.{kind_of_size}
+use Rattle.plan_edits.specs.draft_records.Records.{record_block, has_mirror, fits_room, touch_if, touch_record}
+use Rattle.plan_edits.proofs.draft_records.Steps.{kind_of_size}
 use Rattle.draft_runs.specs.Clusters.{PutsClusters, PutsRuns}
-use Rattle.draft_resized.proofs.FileEffects.{long_of, kept_both}
-use Rattle.draft_bitmaps.specs.declared.bitmap.Bitmap.{Bitmap}
-use Rattle.draft_bitmaps.specs.Bitmaps.{with_value, with_extents, with_record, own_bytes, byte_end, is_below, raised, with_zeros, IsBitmap, PutsRaised, PutsPlacedBy, PutsInto}
-use Rattle.draft_bitmaps.specs.Effects.{room_in}
-use Rattle.draft_bitmaps.proofs.Room.{same_room}
+use Rattle.plan_edits.proofs.draft_resized.FileEffects.{long_of, kept_both}
+use Rattle.draft_growth.specs.draft_bitmaps.declared.bitmap.Bitmap.{Bitmap}
+use Rattle.draft_growth.specs.draft_bitmaps.Bitmaps.{with_value, with_extents, with_record, own_bytes, byte_end, is_below, raised, with_zeros, IsBitmap, PutsRaised, PutsPlacedBy, PutsInto}
+use Rattle.draft_growth.specs.draft_bitmaps.Effects.{room_in}
+use Rattle.draft_growth.proofs.draft_bitmaps.Room.{same_room}
 use Rattle.draft_growth.specs.Clusters.{PutsClustersOf, PutsRunsOf}
 use Rattle.draft_growth.specs.Growing.{with_empty_records, with_leaving}
 use Rattle.plan_edits.specs.Puts.{IsSectorOf, IsSectorWith, IsMirrored}

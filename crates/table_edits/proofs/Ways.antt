@@ -7,11 +7,11 @@ use Rattle.record_model.specs.declared.runs.Run.{Run}
 use Rattle.state_model.specs.declared.stream.Extents.{Extents}
 use Rattle.state_model.specs.declared.stream.Stream.{Stream}
 use Rattle.state_model.specs.declared.stream.Stream.TheVariants.{Held, Placed}
-use Rattle.resized_streams.specs.Resizing.{unplaced}
+use Rattle.plan_edits.specs.resized_streams.Resizing.{unplaced}
 use Rattle.plan_draft.proofs.Parts.{zeros_long}
-use Rattle.draft_records.specs.Records.{fits_room}
-use Rattle.draft_bitmaps.specs.declared.bitmap.Bitmap.{Bitmap}
-use Rattle.draft_bitmaps.specs.Bitmaps.{with_value}
+use Rattle.plan_edits.specs.draft_records.Records.{fits_room}
+use Rattle.draft_growth.specs.draft_bitmaps.declared.bitmap.Bitmap.{Bitmap}
+use Rattle.draft_growth.specs.draft_bitmaps.Bitmaps.{with_value}
 use Rattle.draft_growth.specs.Growing.{filled_up, leaving, MayGrowIn, size_in, standing_in, stays_or_leaves}
 use Rattle.plan_table.specs.Growing.{BitmapBecomes, TakesBits}
 

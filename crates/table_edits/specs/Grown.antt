@@ -18,9 +18,9 @@ use Rattle.plan_owners.specs.States.{Stands}
 use Rattle.plan_draft.specs.declared.touched.Touched.{Touched}
 use Rattle.plan_draft.specs.Drafts.{drafted}
 use Rattle.draft_bits.specs.Effects.{IsKept}
-use Rattle.draft_numbers.specs.Numbers.{new_sequence}
-use Rattle.draft_records.specs.Records.{fits_room, written_record}
-use Rattle.draft_bitmaps.specs.declared.bitmap.Bitmap.{Bitmap}
+use Rattle.draft_growth.specs.draft_numbers.Numbers.{new_sequence}
+use Rattle.plan_edits.specs.draft_records.Records.{fits_room, written_record}
+use Rattle.draft_growth.specs.draft_bitmaps.declared.bitmap.Bitmap.{Bitmap}
 use Rattle.draft_growth.specs.declared.table.Table.{Table}
 use Rattle.draft_growth.specs.Growing.{grown_record, GrowsTable, IsTable, numbers_more, space_of, table_clusters, table_records}
 use Rattle.plan_edits.specs.Edits.{HasBitmap, mirror_key}

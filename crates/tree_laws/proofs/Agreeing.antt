@@ -3,36 +3,36 @@ use Rattle.std.proofs.Common.{◌≡◌, ℕ, zero, suc, ◌+◌, ◌-◌, ◌<�
 use mathlib.Core.Path.{fun_ext}
 use Rattle.std.specs.List.{list_any, filter_map, cons_option, range_with_len}
 use Rattle.std.proofs.lemmas.Bool.{cases_Bool, cases_lt, and_parts, and_from, or_parts, or_from, both_ways, le-ltb, eqb-true}
-use Rattle.host_base.specs.Answers.{◌>>=◌, needs}
-use Rattle.host_base.specs.declared.file_ref.FileRef.{FileRef}
-use Rattle.disk_model.specs.declared.block.Block.{Block}
-use Rattle.disk_model.specs.declared.block.BlockKind.{BlockKind}
-use Rattle.disk_model.specs.declared.block.BlockKind.TheVariants.{FileRec, Index}
-use Rattle.disk_model.specs.Content.{Content}
-use Rattle.disk_model.specs.Writes.{Write, overlay}
-use Rattle.record_model.specs.declared.values.JournalMax.{JournalMax}
-use Rattle.record_model.specs.Records.{Record}
-use Rattle.record_model.specs.Constants.{data_type, names_index, index_allocation}
-use Rattle.file_tree.specs.declared.journal.Journal.{Journal}
-use Rattle.file_tree.specs.declared.journal.Usn.{Usn}
-use Rattle.file_tree.specs.declared.link.Link.{Link}
-use Rattle.file_tree.specs.declared.node.Node.{Node}
-use Rattle.bit_set.specs.Bits.{bit}
-use Rattle.upcase_order.specs.Tables.{upcase_of}
-use Rattle.journal_model.specs.Journals.{journal_in, is_owned}
-use Rattle.state_model.specs.declared.stream.Extents.{Extents}
-use Rattle.state_model.specs.declared.stream.Stream.{Stream}
-use Rattle.state_model.specs.declared.stream.Stream.TheVariants.{Held, Placed}
-use Rattle.state_model.specs.Files.{is_directory_record, reference}
-use Rattle.state_model.specs.Rules.{implies, at_file}
-use Rattle.state_model.specs.Streams.{stream_of, block_at, byte_at}
-use Rattle.file_tree.specs.Walks.{first_user_record}
-use Rattle.state_model.specs.Trees.{is_nameless}
-use Rattle.volume_model.specs.Volumes.{Volume, files_by_number, count_of, file_in, table_file, mirror_file, upcase_file, file_stream, bytes_or, record_bytes, is_in_use, record_bitmap, record_bits, table_or_standard, upper_of}
-use Rattle.volume_model.specs.Indexes.{index_stream, index_links, lists_names, keeps_index}
-use Rattle.volume_model.specs.Sizes.{is_torn_at, begun, has_torn, stream_has_torn, keeps_untorn, keeps_streams, keeps_sizes}
-use Rattle.volume_model.specs.Owners.{keeps_record_bit}
-use Rattle.volume_model.specs.Nodes.{kind_in, data_shown, node_with, node_by, some_node, node_at, spare_sequence, spare_at, spare_numbers}
+use Rattle.volume_state.specs.host_base.Answers.{◌>>=◌, needs}
+use Rattle.volume_state.specs.host_base.declared.file_ref.FileRef.{FileRef}
+use Rattle.volume_state.specs.disk_model.declared.block.Block.{Block}
+use Rattle.volume_state.specs.disk_model.declared.block.BlockKind.{BlockKind}
+use Rattle.volume_state.specs.disk_model.declared.block.BlockKind.TheVariants.{FileRec, Index}
+use Rattle.volume_state.specs.disk_model.Content.{Content}
+use Rattle.volume_state.specs.disk_model.Writes.{Write, overlay}
+use Rattle.volume_state.specs.record_model.declared.values.JournalMax.{JournalMax}
+use Rattle.volume_state.specs.record_model.Records.{Record}
+use Rattle.volume_state.specs.record_model.Constants.{data_type, names_index, index_allocation}
+use Rattle.volume_state.specs.file_tree.declared.journal.Journal.{Journal}
+use Rattle.volume_state.specs.file_tree.declared.journal.Usn.{Usn}
+use Rattle.volume_state.specs.file_tree.declared.link.Link.{Link}
+use Rattle.volume_state.specs.file_tree.declared.node.Node.{Node}
+use Rattle.volume_state.specs.bit_set.Bits.{bit}
+use Rattle.volume_state.specs.upcase_order.Tables.{upcase_of}
+use Rattle.volume_state.specs.journal_model.Journals.{journal_in, is_owned}
+use Rattle.volume_state.specs.state_model.declared.stream.Extents.{Extents}
+use Rattle.volume_state.specs.state_model.declared.stream.Stream.{Stream}
+use Rattle.volume_state.specs.state_model.declared.stream.Stream.TheVariants.{Held, Placed}
+use Rattle.volume_state.specs.state_model.Files.{is_directory_record, reference}
+use Rattle.volume_state.specs.state_model.Rules.{implies, at_file}
+use Rattle.volume_state.specs.state_model.Streams.{stream_of, block_at, byte_at}
+use Rattle.volume_state.specs.file_tree.Walks.{first_user_record}
+use Rattle.volume_state.specs.state_model.Trees.{is_nameless}
+use Rattle.volume_state.specs.volume_model.Volumes.{Volume, files_by_number, count_of, file_in, table_file, mirror_file, upcase_file, file_stream, bytes_or, record_bytes, is_in_use, record_bitmap, record_bits, table_or_standard, upper_of}
+use Rattle.volume_state.specs.volume_model.Indexes.{index_stream, index_links, lists_names, keeps_index}
+use Rattle.volume_state.specs.volume_model.Sizes.{is_torn_at, begun, has_torn, stream_has_torn, keeps_untorn, keeps_streams, keeps_sizes}
+use Rattle.volume_state.specs.volume_model.Owners.{keeps_record_bit}
+use Rattle.volume_state.specs.volume_model.Nodes.{kind_in, data_shown, node_with, node_by, some_node, node_at, spare_sequence, spare_at, spare_numbers}
 use Rattle.volume_state.specs.Journals.{entries_name, journal_file, journal_first, has_journal_shape, limits_in, entries_in, journal_entries, journal_owned, journal_of_streams, journal_of_file, entries_flags, limits_name, journal_of}
 use Rattle.stream_laws.specs.Frames.{SameBytesIn, SameBytesInStream, SameBytesInSome, SameIndexIn}
 use Rattle.stream_laws.proofs.Framing.{same_byte, same_file, same_record_bytes, same_in_use, same_links}

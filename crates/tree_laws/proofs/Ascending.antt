@@ -1,20 +1,20 @@
 -- The way up from files, where each file on it keeps its names.
 use Rattle.std.proofs.Common.{◌≡◌, ℕ, zero, suc, Bool, true, false, not, cond, ◌&&◌, ◌||◌, eqb, ltb, List, [], ◌∷◌, Option, Some, None, Result, Ok, Err, refl, ap, ◌∙◌}
 use Rattle.std.specs.List.{list_any, filter_map, cons_option, AllByRecursion}
-use Rattle.host_base.specs.declared.file_ref.FileRef.{FileRef}
-use Rattle.record_model.specs.declared.attribute.OwnForm.{OwnForm}
-use Rattle.record_model.specs.declared.attribute.OwnForm.TheVariants.{Resident, Mapped}
-use Rattle.record_model.specs.declared.attribute.Attr.{Attr}
-use Rattle.record_model.specs.declared.values.FileNameValue.{FileNameValue}
-use Rattle.record_model.specs.declared.values.ValueFault.{ValueFault}
-use Rattle.record_model.specs.StdValues.{file_name_of}
-use Rattle.record_model.specs.Records.{Record}
-use Rattle.record_model.specs.Constants.{file_name}
-use Rattle.file_tree.specs.declared.link.Link.{Link}
-use Rattle.file_tree.specs.Walks.{root, at_some, first_user_record, passes_system}
-use Rattle.state_model.specs.Files.{Table, reference, named, form_link, attr_link, record_links, file_links, file_at, links_at, is_directory_record}
-use Rattle.state_model.specs.Rules.{implies, at_file, keeps_8}
-use Rattle.state_model.specs.Trees.{first_parent, parent_at, leads, is_in_system, is_system}
+use Rattle.volume_state.specs.host_base.declared.file_ref.FileRef.{FileRef}
+use Rattle.volume_state.specs.record_model.declared.attribute.OwnForm.{OwnForm}
+use Rattle.volume_state.specs.record_model.declared.attribute.OwnForm.TheVariants.{Resident, Mapped}
+use Rattle.volume_state.specs.record_model.declared.attribute.Attr.{Attr}
+use Rattle.volume_state.specs.record_model.declared.values.FileNameValue.{FileNameValue}
+use Rattle.volume_state.specs.record_model.declared.values.ValueFault.{ValueFault}
+use Rattle.volume_state.specs.record_model.StdValues.{file_name_of}
+use Rattle.volume_state.specs.record_model.Records.{Record}
+use Rattle.volume_state.specs.record_model.Constants.{file_name}
+use Rattle.volume_state.specs.file_tree.declared.link.Link.{Link}
+use Rattle.volume_state.specs.file_tree.Walks.{root, at_some, first_user_record, passes_system}
+use Rattle.volume_state.specs.state_model.Files.{Table, reference, named, form_link, attr_link, record_links, file_links, file_at, links_at, is_directory_record}
+use Rattle.volume_state.specs.state_model.Rules.{implies, at_file, keeps_8}
+use Rattle.volume_state.specs.state_model.Trees.{first_parent, parent_at, leads, is_in_system, is_system}
 use Rattle.tree_laws.specs.Ways.{KeepsWays}
 
 same_at_inside : (inside : ℕ → Bool) (f g : ℕ → Bool) → ((m : ℕ) → inside m ≡ true → g m ≡ f m) → (o : Option ℕ) → ((k : ℕ) → o ≡ Some k → inside k ≡ true) → at_some g o ≡ at_some f o

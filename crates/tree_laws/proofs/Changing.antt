@@ -2,23 +2,23 @@
 use Rattle.std.proofs.Common.{◌≡◌, ◌≢◌, ℕ, ◌<◌, max, Bool, true, false, cond, not, eqb, List, [], ◌∷◌, length, Option, Some, None, refl, sym, ap, subst, ◌∙◌, inl, inr}
 use Rattle.std.specs.List.{list_all, AllByRecursion}
 use Rattle.std.proofs.lemmas.Bool.{cases_Bool, and_parts, and_from, eqb-false, ne_eqb, eq-eqb, not-true, both_ways}
-use Rattle.disk_model.specs.Content.{Content}
-use Rattle.record_model.specs.Records.{Record}
-use Rattle.record_model.specs.Constants.{data_type}
-use Rattle.file_tree.specs.declared.link.Link.{Link}
-use Rattle.file_tree.specs.declared.tree.Tree.{Tree}
-use Rattle.bit_set.specs.Bits.{bit}
-use Rattle.upcase_order.specs.Tables.{upcase_of}
-use Rattle.state_model.specs.declared.stream.Stream.{Stream}
-use Rattle.state_model.specs.Files.{Table, only_base, reference, record_links, file_links, file_at, links_at, is_directory_record}
-use Rattle.state_model.specs.Loads.{table_in}
-use Rattle.state_model.specs.Rules.{implies, at_file, keeps_names, is_directory_with, is_directory_at, first_failing, keeps_1, keeps_2, keeps_8}
-use Rattle.state_model.specs.Trees.{first_parent, parent_at, leads, is_system}
-use Rattle.volume_model.specs.Volumes.{Volume, count_of, file_in, file_stream, bytes_or, upcase_file, record_bytes, record_block, is_in_use, record_bits, table_or_standard, upper_of}
-use Rattle.volume_model.specs.Indexes.{keeps_index}
-use Rattle.volume_model.specs.Nodes.{kind_in, some_node, node_at, spare_at}
-use Rattle.volume_model.specs.Owners.{keeps_record_bit}
-use Rattle.volume_model.specs.Sizes.{keeps_place, keeps_sizes}
+use Rattle.volume_state.specs.disk_model.Content.{Content}
+use Rattle.volume_state.specs.record_model.Records.{Record}
+use Rattle.volume_state.specs.record_model.Constants.{data_type}
+use Rattle.volume_state.specs.file_tree.declared.link.Link.{Link}
+use Rattle.volume_state.specs.file_tree.declared.tree.Tree.{Tree}
+use Rattle.volume_state.specs.bit_set.Bits.{bit}
+use Rattle.volume_state.specs.upcase_order.Tables.{upcase_of}
+use Rattle.volume_state.specs.state_model.declared.stream.Stream.{Stream}
+use Rattle.volume_state.specs.state_model.Files.{Table, only_base, reference, record_links, file_links, file_at, links_at, is_directory_record}
+use Rattle.volume_state.specs.state_model.Loads.{table_in}
+use Rattle.volume_state.specs.state_model.Rules.{implies, at_file, keeps_names, is_directory_with, is_directory_at, first_failing, keeps_1, keeps_2, keeps_8}
+use Rattle.volume_state.specs.state_model.Trees.{first_parent, parent_at, leads, is_system}
+use Rattle.volume_state.specs.volume_model.Volumes.{Volume, count_of, file_in, file_stream, bytes_or, upcase_file, record_bytes, record_block, is_in_use, record_bits, table_or_standard, upper_of}
+use Rattle.volume_state.specs.volume_model.Indexes.{keeps_index}
+use Rattle.volume_state.specs.volume_model.Nodes.{kind_in, some_node, node_at, spare_at}
+use Rattle.volume_state.specs.volume_model.Owners.{keeps_record_bit}
+use Rattle.volume_state.specs.volume_model.Sizes.{keeps_place, keeps_sizes}
 use Rattle.volume_state.specs.Rules.{file_count, broken_1, broken_2, broken_3, broken_4, broken_7, broken_8}
 use Rattle.volume_state.specs.Trees.{Holds, tree_of}
 use Rattle.stream_laws.specs.Rewrites.{with_files}

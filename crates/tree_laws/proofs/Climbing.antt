@@ -1,16 +1,16 @@
 -- The nodes of a volume where a file that keeps its names is replaced.
 use Rattle.std.proofs.Common.{◌≡◌, ◌≢◌, ℕ, ◌<◌, ◌≤◌, Bool, true, cond, List, [], ◌∷◌, length, Option, Some, None, refl, ap, ◌∙◌, arith}
 use Rattle.std.specs.List.{filter_map, cons_option, range_with_len, AllByRecursion}
-use Rattle.record_model.specs.Records.{Record}
-use Rattle.file_tree.specs.declared.link.Link.{Link}
-use Rattle.file_tree.specs.declared.node.Kind.{Kind}
-use Rattle.file_tree.specs.declared.node.Kind.TheVariants.{Directory, File, Fixed, Opaque, System}
-use Rattle.state_model.specs.declared.stream.Stream.{Stream}
-use Rattle.state_model.specs.Files.{Table, record_links, is_directory_record}
-use Rattle.state_model.specs.Loads.{table_in}
-use Rattle.state_model.specs.Trees.{first_parent, parent_at, leads, is_in_system, is_system, is_nameless}
-use Rattle.volume_model.specs.Volumes.{Volume, files_by_number, count_of, file_in}
-use Rattle.volume_model.specs.Nodes.{is_unread, is_unchanged, kind_in, data_shown, node_with, node_by, some_node, node_at, nodes_by}
+use Rattle.volume_state.specs.record_model.Records.{Record}
+use Rattle.volume_state.specs.file_tree.declared.link.Link.{Link}
+use Rattle.volume_state.specs.file_tree.declared.node.Kind.{Kind}
+use Rattle.volume_state.specs.file_tree.declared.node.Kind.TheVariants.{Directory, File, Fixed, Opaque, System}
+use Rattle.volume_state.specs.state_model.declared.stream.Stream.{Stream}
+use Rattle.volume_state.specs.state_model.Files.{Table, record_links, is_directory_record}
+use Rattle.volume_state.specs.state_model.Loads.{table_in}
+use Rattle.volume_state.specs.state_model.Trees.{first_parent, parent_at, leads, is_in_system, is_system, is_nameless}
+use Rattle.volume_state.specs.volume_model.Volumes.{Volume, files_by_number, count_of, file_in}
+use Rattle.volume_state.specs.volume_model.Nodes.{is_unread, is_unchanged, kind_in, data_shown, node_with, node_by, some_node, node_at, nodes_by}
 use Rattle.stream_laws.specs.Replacing.{SameBut, OneFileDiffers}
 use Rattle.stream_laws.specs.Rewrites.{with_files}
 use Rattle.tree_laws.specs.Keeping.{PartReplaced, KeepsNames}

@@ -3,12 +3,12 @@ use Rattle.std.proofs.Common.{◌≡◌, ℕ, zero, suc, ◌+◌, ◌<◌, ◌�
 use Rattle.std.specs.Prelude.{count_by}
 use Rattle.std.specs.List.{range_with_len}
 use Rattle.std.proofs.lemmas.List.Sums.{sum_by-cons}
-use Rattle.disk_model.specs.Content.{Content}
-use Rattle.bit_set.specs.Bits.{bit}
-use Rattle.bit_set.specs.Words.{byte_bit, bits_of_bytes}
-use Rattle.bit_set.proofs.Views.{bit-bits_of_bytes}
-use Rattle.volume_model.specs.Volumes.{Volume, bytes_or, cluster_bitmap, cluster_bits}
-use Rattle.volume_model.specs.Nodes.{free_clusters}
+use Rattle.volume_state.specs.disk_model.Content.{Content}
+use Rattle.volume_state.specs.bit_set.Bits.{bit}
+use Rattle.volume_state.specs.bit_set.Words.{byte_bit, bits_of_bytes}
+use Rattle.volume_state.proofs.bit_set.Views.{bit-bits_of_bytes}
+use Rattle.volume_state.specs.volume_model.Volumes.{Volume, bytes_or, cluster_bitmap, cluster_bits}
+use Rattle.volume_state.specs.volume_model.Nodes.{free_clusters}
 use Rattle.tree_laws.specs.Room.{newly_set, newly_clear}
 
 abbrev tally : Bool → ℕ

@@ -6,32 +6,32 @@ use Rattle.std.specs.List.{filter_map, flat_map, list_all, list_any, range_with_
 use Rattle.std.proofs.lemmas.Bool.{cases_Bool, cases_lt, and_parts, and_from, le-leb, ne_eqb, both_ways, lt-ltb}
 use Rattle.std.proofs.lemmas.List.{append-nil, length-append, length-replicate, get_or_past, get_or_append_left}
 use Rattle.std.proofs.lemmas.Grind.{flat_map-append}
-use Rattle.host_base.specs.declared.file_ref.FileRef.{FileRef}
-use Rattle.disk_model.specs.declared.block.Block.{Block}
-use Rattle.disk_model.specs.declared.block.BlockKind.TheVariants.{FileRec}
-use Rattle.disk_model.specs.Numbers.{field}
-use Rattle.disk_model.specs.Content.{Content}
-use Rattle.record_model.specs.declared.runs.Run.{Run}
-use Rattle.record_model.specs.Records.{Record, has_in_use_flag}
-use Rattle.record_model.specs.Constants.{data_type, bitmap_type}
-use Rattle.file_tree.specs.declared.link.Link.{Link}
-use Rattle.file_tree.specs.declared.tree.Tree.{Tree}
-use Rattle.file_tree.specs.Walks.{child_in, first_user_record}
-use Rattle.bit_set.specs.Bits.{bit}
-use Rattle.bit_set.specs.Words.{byte_bit, bits_of_bytes}
-use Rattle.upcase_order.specs.Tables.{upcase_of}
-use Rattle.state_model.specs.declared.stream.Extents.{Extents}
-use Rattle.state_model.specs.declared.stream.Stream.{Stream}
-use Rattle.state_model.specs.Files.{Table, reference, record_links, file_links, file_at, links_at, is_directory_record}
-use Rattle.state_model.specs.Loads.{record_count, table_in, is_used}
-use Rattle.state_model.specs.Rules.{implies, at_file, keeps_names, is_directory_with, is_directory_at, count_in, names_in, is_rising, is_name_in, is_index, first_failing, keeps_1, keeps_2, keeps_8}
-use Rattle.state_model.specs.Streams.{block_at}
-use Rattle.state_model.specs.Trees.{leads, is_in_system, is_system, all_links}
-use Rattle.volume_model.specs.Volumes.{Volume, count_of, file_in, file_stream, bytes_or, size_or, table_file, bitmap_file, upcase_file, record_bytes, record_block, block_bytes, is_in_use, cluster_bitmap, cluster_bits, record_bitmap, record_bits, table_or_standard, upper_of}
-use Rattle.volume_model.specs.Indexes.{index_links, lists_names, keeps_index}
-use Rattle.volume_model.specs.Nodes.{some_node, node_at, nodes_by, spare_sequence, spare_at, spare_numbers, free_clusters}
-use Rattle.volume_model.specs.Owners.{file_runs, volume_runs, keeps_owner, keeps_cluster_bit, keeps_record_bit}
-use Rattle.volume_model.specs.Sizes.{is_at, placed_record, keeps_place, keeps_bitmaps, keeps_streams, keeps_sizes}
+use Rattle.volume_state.specs.host_base.declared.file_ref.FileRef.{FileRef}
+use Rattle.volume_state.specs.disk_model.declared.block.Block.{Block}
+use Rattle.volume_state.specs.disk_model.declared.block.BlockKind.TheVariants.{FileRec}
+use Rattle.volume_state.specs.disk_model.Numbers.{field}
+use Rattle.volume_state.specs.disk_model.Content.{Content}
+use Rattle.volume_state.specs.record_model.declared.runs.Run.{Run}
+use Rattle.volume_state.specs.record_model.Records.{Record, has_in_use_flag}
+use Rattle.volume_state.specs.record_model.Constants.{data_type, bitmap_type}
+use Rattle.volume_state.specs.file_tree.declared.link.Link.{Link}
+use Rattle.volume_state.specs.file_tree.declared.tree.Tree.{Tree}
+use Rattle.volume_state.specs.file_tree.Walks.{child_in, first_user_record}
+use Rattle.volume_state.specs.bit_set.Bits.{bit}
+use Rattle.volume_state.specs.bit_set.Words.{byte_bit, bits_of_bytes}
+use Rattle.volume_state.specs.upcase_order.Tables.{upcase_of}
+use Rattle.volume_state.specs.state_model.declared.stream.Extents.{Extents}
+use Rattle.volume_state.specs.state_model.declared.stream.Stream.{Stream}
+use Rattle.volume_state.specs.state_model.Files.{Table, reference, record_links, file_links, file_at, links_at, is_directory_record}
+use Rattle.volume_state.specs.state_model.Loads.{record_count, table_in, is_used}
+use Rattle.volume_state.specs.state_model.Rules.{implies, at_file, keeps_names, is_directory_with, is_directory_at, count_in, names_in, is_rising, is_name_in, is_index, first_failing, keeps_1, keeps_2, keeps_8}
+use Rattle.volume_state.specs.state_model.Streams.{block_at}
+use Rattle.volume_state.specs.state_model.Trees.{leads, is_in_system, is_system, all_links}
+use Rattle.volume_state.specs.volume_model.Volumes.{Volume, count_of, file_in, file_stream, bytes_or, size_or, table_file, bitmap_file, upcase_file, record_bytes, record_block, block_bytes, is_in_use, cluster_bitmap, cluster_bits, record_bitmap, record_bits, table_or_standard, upper_of}
+use Rattle.volume_state.specs.volume_model.Indexes.{index_links, lists_names, keeps_index}
+use Rattle.volume_state.specs.volume_model.Nodes.{some_node, node_at, nodes_by, spare_sequence, spare_at, spare_numbers, free_clusters}
+use Rattle.volume_state.specs.volume_model.Owners.{file_runs, volume_runs, keeps_owner, keeps_cluster_bit, keeps_record_bit}
+use Rattle.volume_state.specs.volume_model.Sizes.{is_at, placed_record, keeps_place, keeps_bitmaps, keeps_streams, keeps_sizes}
 use Rattle.volume_state.specs.Journals.{extend_file, journal_name, file_or_none, journal_file, journal_of_file, journal_of, fault_of, some_journal}
 use Rattle.volume_state.specs.Rules.{file_count, broken_1, broken_2, broken_3, broken_4, broken_5, broken_6, broken_7, broken_8, broken_9}
 use Rattle.volume_state.specs.Trees.{Holds, volume_journal, tree_with, tree_of}

@@ -2,18 +2,18 @@
 use Rattle.std.proofs.Common.{◌≡◌, ◌≢◌, ℕ, ◌<◌, Bool, true, false, not, eqb, List, length, Option, Some, None, refl, sym, ap, subst, ◌∙◌, arith}
 use Rattle.std.specs.Prelude.{count_by}
 use Rattle.std.proofs.lemmas.Bool.{eqb-true, eqb-false, ne_eqb}
-use Rattle.disk_model.specs.Content.{Content}
-use Rattle.record_model.specs.Records.{Record}
-use Rattle.file_tree.specs.declared.tree.Tree.{Tree}
-use Rattle.bit_set.specs.Bits.{bit}
-use Rattle.state_model.specs.Files.{file_at, links_at, reference, is_directory_record}
-use Rattle.state_model.specs.Loads.{table_in}
-use Rattle.state_model.specs.Rules.{implies, at_file, is_directory_with, keeps_1, keeps_2, keeps_8}
-use Rattle.volume_model.specs.Volumes.{Volume, count_of, file_in, files_by_number, bytes_or, cluster_bitmap, record_bits, table_file, bitmap_file, upcase_file, upper_of}
-use Rattle.volume_model.specs.Nodes.{node_at, free_clusters}
-use Rattle.volume_model.specs.Indexes.{index_links, lists_names, keeps_index}
-use Rattle.volume_model.specs.Sizes.{keeps_sizes}
-use Rattle.volume_model.specs.Owners.{keeps_record_bit}
+use Rattle.volume_state.specs.disk_model.Content.{Content}
+use Rattle.volume_state.specs.record_model.Records.{Record}
+use Rattle.volume_state.specs.file_tree.declared.tree.Tree.{Tree}
+use Rattle.volume_state.specs.bit_set.Bits.{bit}
+use Rattle.volume_state.specs.state_model.Files.{file_at, links_at, reference, is_directory_record}
+use Rattle.volume_state.specs.state_model.Loads.{table_in}
+use Rattle.volume_state.specs.state_model.Rules.{implies, at_file, is_directory_with, keeps_1, keeps_2, keeps_8}
+use Rattle.volume_state.specs.volume_model.Volumes.{Volume, count_of, file_in, files_by_number, bytes_or, cluster_bitmap, record_bits, table_file, bitmap_file, upcase_file, upper_of}
+use Rattle.volume_state.specs.volume_model.Nodes.{node_at, free_clusters}
+use Rattle.volume_state.specs.volume_model.Indexes.{index_links, lists_names, keeps_index}
+use Rattle.volume_state.specs.volume_model.Sizes.{keeps_sizes}
+use Rattle.volume_state.specs.volume_model.Owners.{keeps_record_bit}
 use Rattle.volume_state.specs.Journals.{journal_of, fault_of, some_journal}
 use Rattle.volume_state.specs.Rules.{broken_7, broken_9}
 use Rattle.volume_state.specs.Trees.{Holds, volume_journal, tree_with, tree_of}

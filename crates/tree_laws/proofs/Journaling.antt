@@ -4,18 +4,18 @@ use Rattle.std.specs.Option.{option_or, option_map}
 use Rattle.std.specs.List.{filter, flat_map, range_with_len}
 use Rattle.std.proofs.lemmas.Bool.{cases_Bool}
 use Rattle.std.proofs.lemmas.List.Elements.{filter-append}
-use Rattle.disk_model.specs.Content.{Content}
-use Rattle.record_model.specs.Records.{Record}
-use Rattle.record_model.specs.Constants.{data_type}
-use Rattle.file_tree.specs.declared.link.Link.{Link}
-use Rattle.file_tree.specs.Names.{same_units, same_name}
-use Rattle.file_tree.specs.Trees.{is_in, first_in_order, same_links, look_up}
-use Rattle.file_tree.specs.Walks.{child_in}
-use Rattle.upcase_order.specs.Tables.{upcase_of}
-use Rattle.state_model.specs.Files.{Table, only_base, file_at, links_at}
-use Rattle.state_model.specs.Loads.{table_in}
-use Rattle.state_model.specs.Trees.{all_links}
-use Rattle.volume_model.specs.Volumes.{Volume, count_of, file_in, file_stream, bytes_or, upcase_file, table_or_standard, upper_of}
+use Rattle.volume_state.specs.disk_model.Content.{Content}
+use Rattle.volume_state.specs.record_model.Records.{Record}
+use Rattle.volume_state.specs.record_model.Constants.{data_type}
+use Rattle.volume_state.specs.file_tree.declared.link.Link.{Link}
+use Rattle.volume_state.specs.file_tree.Names.{same_units, same_name}
+use Rattle.volume_state.specs.file_tree.Trees.{is_in, first_in_order, same_links, look_up}
+use Rattle.volume_state.specs.file_tree.Walks.{child_in}
+use Rattle.volume_state.specs.upcase_order.Tables.{upcase_of}
+use Rattle.volume_state.specs.state_model.Files.{Table, only_base, file_at, links_at}
+use Rattle.volume_state.specs.state_model.Loads.{table_in}
+use Rattle.volume_state.specs.state_model.Trees.{all_links}
+use Rattle.volume_state.specs.volume_model.Volumes.{Volume, count_of, file_in, file_stream, bytes_or, upcase_file, table_or_standard, upper_of}
 use Rattle.volume_state.specs.Journals.{extend_file, journal_name, file_or_none, journal_file, journal_of_file, journal_of, fault_of, some_journal}
 use Rattle.volume_state.specs.Rules.{broken_9}
 use Rattle.volume_state.specs.Trees.{volume_journal}

@@ -2,10 +2,10 @@
 use Rattle.std.proofs.Common.{◌≡◌, ℕ, zero, suc, ◌+◌, ◌<◌, ◌≤◌, Bool, true, not, cond, find, Option, Some, None, refl, ap, ◌∙◌, inl, inr, arith}
 use Rattle.std.specs.List.{range_with_len}
 use Rattle.std.proofs.lemmas.Bool.{cases_Bool, cases_lt}
-use Rattle.disk_model.specs.Content.{Content}
-use Rattle.state_model.specs.declared.broken.Broken.{Broken}
-use Rattle.state_model.specs.Rules.{broken_or, first_failing}
-use Rattle.volume_model.specs.Volumes.{Volume}
+use Rattle.volume_state.specs.disk_model.Content.{Content}
+use Rattle.volume_state.specs.state_model.declared.broken.Broken.{Broken}
+use Rattle.volume_state.specs.state_model.Rules.{broken_or, first_failing}
+use Rattle.volume_state.specs.volume_model.Volumes.{Volume}
 use Rattle.volume_state.specs.Rules.{broken_1, broken_2, broken_3, broken_4, broken_5, broken_6, broken_7, broken_8, broken_9, first_broken}
 
 -- ---- the least number at which a test fails

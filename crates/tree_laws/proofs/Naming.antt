@@ -4,11 +4,11 @@ use mathlib.Core.Path.{fun_ext}
 use Rattle.std.specs.List.{flat_map, range_with_len}
 use Rattle.std.proofs.lemmas.Bool.{cases_Bool, eqb-true, eqb-false}
 use Rattle.std.proofs.lemmas.List.{get_or_past}
-use Rattle.record_model.specs.Records.{Record}
-use Rattle.file_tree.specs.declared.link.Link.{Link}
-use Rattle.state_model.specs.Files.{Table, only_base, file_at, file_links, links_at}
-use Rattle.state_model.specs.Loads.{table_in}
-use Rattle.state_model.specs.Trees.{all_links}
+use Rattle.volume_state.specs.record_model.Records.{Record}
+use Rattle.volume_state.specs.file_tree.declared.link.Link.{Link}
+use Rattle.volume_state.specs.state_model.Files.{Table, only_base, file_at, file_links, links_at}
+use Rattle.volume_state.specs.state_model.Loads.{table_in}
+use Rattle.volume_state.specs.state_model.Trees.{all_links}
 use Rattle.stream_laws.specs.Replacing.{SameBut, OneFileDiffers}
 use Rattle.stream_laws.proofs.Replacing.{same_names}
 use Rattle.tree_laws.specs.Keeping.{PartReplaced, KeepsNames}

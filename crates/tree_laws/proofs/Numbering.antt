@@ -1,13 +1,13 @@
 -- The nodes of a volume are found by the numbers of their files.
 use Rattle.std.proofs.Common.{◌≡◌, ℕ, Bool, true, false, cond, List, Option, Some, None, refl, sym, ap, ◌∙◌, inl, inr, arith}
 use Rattle.std.proofs.lemmas.Bool.{cases_lt}
-use Rattle.record_model.specs.Records.{Record}
-use Rattle.file_tree.specs.declared.node.Node.{Node}
-use Rattle.file_tree.specs.Trees.{node_at as node_by_number}
-use Rattle.state_model.specs.declared.stream.Stream.{Stream}
-use Rattle.state_model.specs.Trees.{is_nameless}
-use Rattle.volume_model.specs.Volumes.{Volume, count_of, file_in}
-use Rattle.volume_model.specs.Nodes.{node_with, node_by, some_node, node_at, nodes_by}
+use Rattle.volume_state.specs.record_model.Records.{Record}
+use Rattle.volume_state.specs.file_tree.declared.node.Node.{Node}
+use Rattle.volume_state.specs.file_tree.Trees.{node_at as node_by_number}
+use Rattle.volume_state.specs.state_model.declared.stream.Stream.{Stream}
+use Rattle.volume_state.specs.state_model.Trees.{is_nameless}
+use Rattle.volume_state.specs.volume_model.Volumes.{Volume, count_of, file_in}
+use Rattle.volume_state.specs.volume_model.Nodes.{node_with, node_by, some_node, node_at, nodes_by}
 use Rattle.tree_laws.proofs.Climbing.{no_node}
 use Rattle.tree_laws.proofs.Finding.{IsNumbered, among, not_among}
 

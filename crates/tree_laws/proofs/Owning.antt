@@ -2,13 +2,13 @@
 use Rattle.std.proofs.Common.{◌≡◌, ◌≢◌, ℕ, ◌<◌, ◌≤◌, Bool, true, false, leb, List, Option, None, refl, sym, ap, ◌∙◌, inl, inr, arith}
 use mathlib.Core.Path.{fun_ext}
 use Rattle.std.proofs.lemmas.Bool.{cases_Bool, leb-true, leb-false, le-leb, lt-leb}
-use Rattle.disk_model.specs.Content.{Content}
-use Rattle.record_model.specs.Records.{Record}
-use Rattle.bit_set.specs.Bits.{bit}
-use Rattle.state_model.specs.Loads.{table_in}
-use Rattle.state_model.specs.Rules.{implies, first_failing}
-use Rattle.volume_model.specs.Volumes.{Volume, bitmap_file, cluster_bits}
-use Rattle.volume_model.specs.Owners.{file_runs, volume_runs, uses, keeps_owner, keeps_cluster_bit}
+use Rattle.volume_state.specs.disk_model.Content.{Content}
+use Rattle.volume_state.specs.record_model.Records.{Record}
+use Rattle.volume_state.specs.bit_set.Bits.{bit}
+use Rattle.volume_state.specs.state_model.Loads.{table_in}
+use Rattle.volume_state.specs.state_model.Rules.{implies, first_failing}
+use Rattle.volume_state.specs.volume_model.Volumes.{Volume, bitmap_file, cluster_bits}
+use Rattle.volume_state.specs.volume_model.Owners.{file_runs, volume_runs, uses, keeps_owner, keeps_cluster_bit}
 use Rattle.volume_state.specs.Rules.{broken_5, broken_6}
 use Rattle.stream_laws.specs.Replacing.{OneFileDiffers}
 use Rattle.stream_laws.specs.Rewrites.{with_files}

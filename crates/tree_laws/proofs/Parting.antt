@@ -3,18 +3,18 @@ use Rattle.std.proofs.Common.{◌≡◌, ◌≢◌, ℕ, ◌-◌, ◌<◌, ◌�
 use mathlib.Core.Path.{fun_ext}
 use Rattle.std.specs.Prelude.{count_by}
 use Rattle.std.specs.List.{filter_map, cons_option, range_with_len}
-use Rattle.host_base.specs.declared.file_ref.FileRef.{FileRef}
-use Rattle.disk_model.specs.Content.{Content}
-use Rattle.record_model.specs.Records.{Record}
-use Rattle.record_model.specs.Constants.{data_type, bitmap_type}
-use Rattle.file_tree.specs.declared.link.Link.{Link}
-use Rattle.file_tree.specs.Walks.{child_in, first_user_record}
-use Rattle.bit_set.specs.Bits.{bit}
-use Rattle.bit_set.specs.Words.{bits_of_bytes}
-use Rattle.upcase_order.specs.Tables.{upcase_of}
-use Rattle.state_model.specs.Loads.{table_in}
-use Rattle.volume_model.specs.Volumes.{Volume, count_of, file_in, table_file, bitmap_file, upcase_file, file_stream, bytes_or, record_bytes, record_block, record_bits, cluster_bits, table_or_standard, upper_of}
-use Rattle.volume_model.specs.Nodes.{spare_sequence, spare_at, spare_numbers, free_clusters}
+use Rattle.volume_state.specs.host_base.declared.file_ref.FileRef.{FileRef}
+use Rattle.volume_state.specs.disk_model.Content.{Content}
+use Rattle.volume_state.specs.record_model.Records.{Record}
+use Rattle.volume_state.specs.record_model.Constants.{data_type, bitmap_type}
+use Rattle.volume_state.specs.file_tree.declared.link.Link.{Link}
+use Rattle.volume_state.specs.file_tree.Walks.{child_in, first_user_record}
+use Rattle.volume_state.specs.bit_set.Bits.{bit}
+use Rattle.volume_state.specs.bit_set.Words.{bits_of_bytes}
+use Rattle.volume_state.specs.upcase_order.Tables.{upcase_of}
+use Rattle.volume_state.specs.state_model.Loads.{table_in}
+use Rattle.volume_state.specs.volume_model.Volumes.{Volume, count_of, file_in, table_file, bitmap_file, upcase_file, file_stream, bytes_or, record_bytes, record_block, record_bits, cluster_bits, table_or_standard, upper_of}
+use Rattle.volume_state.specs.volume_model.Nodes.{spare_sequence, spare_at, spare_numbers, free_clusters}
 use Rattle.volume_state.specs.Journals.{extend_file, journal_name, file_or_none, journal_file, journal_of_file, journal_of}
 use Rattle.stream_laws.specs.Replacing.{OneFileDiffers}
 use Rattle.stream_laws.specs.Rewrites.{with_files}

@@ -1,26 +1,26 @@
 -- What writes leave that go to the blocks of a few streams and of a few file records.
 use Rattle.std.proofs.Common.{◌≡◌, ◌≢◌, ◌⊎◌, ℕ, ◌<◌, Bool, true, false, cond, eqb, List, [], ◌∷◌, Option, Some, None, refl, sym, ap, subst, ◌∙◌, inl, inr, arith}
 use Rattle.std.proofs.lemmas.Bool.{cases_Bool, both_ways, eqb-true, ne_eqb}
-use Rattle.disk_model.specs.declared.block.Block.{Block}
-use Rattle.disk_model.specs.declared.block.BlockKind.TheVariants.{FileRec}
-use Rattle.disk_model.specs.Content.{Content, HasSizes}
-use Rattle.disk_model.specs.Laws.{IsElsewhere}
-use Rattle.disk_model.specs.Writes.{Write, overlay}
-use Rattle.record_model.specs.declared.runs.Run.{Run}
-use Rattle.record_model.specs.Records.{Record}
-use Rattle.record_model.specs.Constants.{data_type, names_index, index_allocation, bitmap_type}
-use Rattle.file_tree.specs.declared.node.Kind.TheVariants.{Directory, System}
-use Rattle.bit_set.specs.Bits.{bit}
-use Rattle.state_model.specs.declared.geometry.Geometry.{Geometry}
-use Rattle.state_model.specs.declared.stream.Stream.{Stream}
-use Rattle.state_model.specs.declared.stream.Stream.TheVariants.{Held, Placed}
-use Rattle.state_model.specs.Files.{is_directory_record}
-use Rattle.state_model.specs.Loads.{data_stream}
-use Rattle.state_model.specs.Streams.{stream_of, block_at}
-use Rattle.state_model.specs.Trees.{is_system}
-use Rattle.volume_model.specs.Volumes.{Volume, count_of, file_in, file_stream, table_file, upcase_file, record_bits, upper_of}
-use Rattle.volume_model.specs.Indexes.{void_block, index_block, index_stream}
-use Rattle.volume_model.specs.Nodes.{kind_in, shows_data}
+use Rattle.volume_state.specs.disk_model.declared.block.Block.{Block}
+use Rattle.volume_state.specs.disk_model.declared.block.BlockKind.TheVariants.{FileRec}
+use Rattle.volume_state.specs.disk_model.Content.{Content, HasSizes}
+use Rattle.volume_state.specs.disk_model.Laws.{IsElsewhere}
+use Rattle.volume_state.specs.disk_model.Writes.{Write, overlay}
+use Rattle.volume_state.specs.record_model.declared.runs.Run.{Run}
+use Rattle.volume_state.specs.record_model.Records.{Record}
+use Rattle.volume_state.specs.record_model.Constants.{data_type, names_index, index_allocation, bitmap_type}
+use Rattle.volume_state.specs.file_tree.declared.node.Kind.TheVariants.{Directory, System}
+use Rattle.volume_state.specs.bit_set.Bits.{bit}
+use Rattle.volume_state.specs.state_model.declared.geometry.Geometry.{Geometry}
+use Rattle.volume_state.specs.state_model.declared.stream.Stream.{Stream}
+use Rattle.volume_state.specs.state_model.declared.stream.Stream.TheVariants.{Held, Placed}
+use Rattle.volume_state.specs.state_model.Files.{is_directory_record}
+use Rattle.volume_state.specs.state_model.Loads.{data_stream}
+use Rattle.volume_state.specs.state_model.Streams.{stream_of, block_at}
+use Rattle.volume_state.specs.state_model.Trees.{is_system}
+use Rattle.volume_state.specs.volume_model.Volumes.{Volume, count_of, file_in, file_stream, table_file, upcase_file, record_bits, upper_of}
+use Rattle.volume_state.specs.volume_model.Indexes.{void_block, index_block, index_stream}
+use Rattle.volume_state.specs.volume_model.Nodes.{kind_in, shows_data}
 use Rattle.volume_state.specs.Journals.{entries_name, file_or_none, journal_file}
 use Rattle.stream_laws.specs.Changes.{AreElsewhere, LeavesBytes, LeavesRecord, LeavesIndex}
 use Rattle.stream_laws.specs.Frames.{IsRecordBlock, SameRecordIn, SameIndexIn}

@@ -3,21 +3,21 @@ use Rattle.std.proofs.Common.{◌≡◌, ◌≢◌, ℕ, zero, suc, ◌*◌, Boo
 use mathlib.Core.Path.{fun_ext}
 use Rattle.std.specs.List.{list_all, list_any}
 use Rattle.std.proofs.lemmas.Bool.{cases_Bool, eqb-true}
-use Rattle.host_base.specs.declared.file_ref.FileRef.{FileRef}
-use Rattle.host_base.specs.FileRefs.{same_reference}
-use Rattle.disk_model.specs.Content.{Content}
-use Rattle.record_model.specs.Records.{Record}
-use Rattle.record_model.specs.Constants.{data_type, bitmap_type}
-use Rattle.file_tree.specs.declared.link.Link.{Link}
-use Rattle.bit_set.specs.Bits.{bit}
-use Rattle.state_model.specs.Files.{Table, file_at, links_at, record_links, reference, is_directory_record}
-use Rattle.state_model.specs.Loads.{table_in}
-use Rattle.state_model.specs.Trees.{leads}
-use Rattle.state_model.specs.Rules.{implies, same_link, keeps_names, at_file, keeps_1, is_directory_with, is_directory_at, keeps_2, count_in, names_in, is_rising, is_name_in, is_index, keeps_8}
-use Rattle.volume_model.specs.Volumes.{Volume, count_of, file_in, table_file, bitmap_file, file_stream, size_or, record_bytes, record_block, is_in_use, record_bitmap, cluster_bitmap}
-use Rattle.volume_model.specs.Indexes.{index_links, lists_names, keeps_index}
-use Rattle.volume_model.specs.Sizes.{keeps_bitmaps, keeps_streams, keeps_sizes}
-use Rattle.volume_model.specs.Owners.{keeps_record_bit}
+use Rattle.volume_state.specs.host_base.declared.file_ref.FileRef.{FileRef}
+use Rattle.volume_state.specs.host_base.FileRefs.{same_reference}
+use Rattle.volume_state.specs.disk_model.Content.{Content}
+use Rattle.volume_state.specs.record_model.Records.{Record}
+use Rattle.volume_state.specs.record_model.Constants.{data_type, bitmap_type}
+use Rattle.volume_state.specs.file_tree.declared.link.Link.{Link}
+use Rattle.volume_state.specs.bit_set.Bits.{bit}
+use Rattle.volume_state.specs.state_model.Files.{Table, file_at, links_at, record_links, reference, is_directory_record}
+use Rattle.volume_state.specs.state_model.Loads.{table_in}
+use Rattle.volume_state.specs.state_model.Trees.{leads}
+use Rattle.volume_state.specs.state_model.Rules.{implies, same_link, keeps_names, at_file, keeps_1, is_directory_with, is_directory_at, keeps_2, count_in, names_in, is_rising, is_name_in, is_index, keeps_8}
+use Rattle.volume_state.specs.volume_model.Volumes.{Volume, count_of, file_in, table_file, bitmap_file, file_stream, size_or, record_bytes, record_block, is_in_use, record_bitmap, cluster_bitmap}
+use Rattle.volume_state.specs.volume_model.Indexes.{index_links, lists_names, keeps_index}
+use Rattle.volume_state.specs.volume_model.Sizes.{keeps_bitmaps, keeps_streams, keeps_sizes}
+use Rattle.volume_state.specs.volume_model.Owners.{keeps_record_bit}
 use Rattle.stream_laws.specs.Replacing.{SameBut, OneFileDiffers}
 use Rattle.stream_laws.specs.Rewrites.{with_files}
 use Rattle.tree_laws.specs.Keeping.{KeepsNames, KeepsDirectory, is_directory_file}

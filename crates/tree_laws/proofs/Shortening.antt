@@ -3,12 +3,12 @@ use Rattle.std.proofs.Common.{◌≡◌, ◌≢◌, ℕ, zero, suc, ◌<◌, ◌
 use Rattle.std.specs.List.{IsDistinct, list_any, AllByRecursion}
 use Rattle.std.proofs.lemmas.Bool.{cases_Bool, cases_lt, or_left, or_right, both_ways, eqb-true, ne_eqb}
 use Rattle.std.proofs.lemmas.Map.Steps.{length-le_from_distinct_below}
-use Rattle.record_model.specs.Records.{Record}
-use Rattle.file_tree.specs.Walks.{root, at_some, first_user_record, passes_system}
-use Rattle.state_model.specs.Files.{Table, file_at, links_at, is_directory_record}
-use Rattle.state_model.specs.Loads.{table_in}
-use Rattle.state_model.specs.Rules.{implies, at_file, keeps_8}
-use Rattle.state_model.specs.Trees.{first_parent, parent_at, leads, is_in_system}
+use Rattle.volume_state.specs.record_model.Records.{Record}
+use Rattle.volume_state.specs.file_tree.Walks.{root, at_some, first_user_record, passes_system}
+use Rattle.volume_state.specs.state_model.Files.{Table, file_at, links_at, is_directory_record}
+use Rattle.volume_state.specs.state_model.Loads.{table_in}
+use Rattle.volume_state.specs.state_model.Rules.{implies, at_file, keeps_8}
+use Rattle.volume_state.specs.state_model.Trees.{first_parent, parent_at, leads, is_in_system}
 use Rattle.tree_laws.proofs.Naming.{no_names}
 
 -- ---- more steps

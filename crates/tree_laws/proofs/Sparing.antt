@@ -5,24 +5,24 @@ use Rattle.std.proofs.lemmas.Bool.{cases_lt, cases_eq, both_ways}
 use Rattle.std.proofs.lemmas.List.Elements.{filter-append}
 use Rattle.std.proofs.lemmas.List.FromFn.{get_or-map-range_with_len}
 use Rattle.std.proofs.lemmas.List.Sums.{sum_by-append}
-use Rattle.disk_model.specs.declared.block.Block.{Block}
-use Rattle.disk_model.specs.declared.block.BlockKind.TheVariants.{Plain, FileRec}
-use Rattle.disk_model.specs.Content.{Content}
-use Rattle.disk_model.specs.Laws.{IsElsewhere}
-use Rattle.disk_model.specs.Writes.{Write, overlay}
-use Rattle.record_model.specs.declared.attribute.Attr.{Attr}
-use Rattle.record_model.specs.declared.runs.Run.{Run}
-use Rattle.record_model.specs.Records.{Record}
-use Rattle.record_model.specs.Constants.{attribute_list}
-use Rattle.state_model.specs.declared.geometry.Geometry.{Geometry}
-use Rattle.state_model.specs.declared.stream.Extents.{Extents}
-use Rattle.state_model.specs.declared.stream.Stream.{Stream}
-use Rattle.state_model.specs.declared.stream.Stream.TheVariants.{Held, Placed}
-use Rattle.state_model.specs.Files.{only_base, is_base_record, file_at}
-use Rattle.state_model.specs.Loads.{Free, record_count, table_slot, list_stream, named_attrs, entries_of, all_attrs, whole_file, joined_file, files_of, files_in}
-use Rattle.state_model.specs.Streams.{is_attribute_of, attribute_runs, stream_of, block_at}
-use Rattle.volume_model.specs.Volumes.{Volume, volume_of, file_in, file_stream}
-use Rattle.volume_model.specs.Owners.{volume_runs, uses}
+use Rattle.volume_state.specs.disk_model.declared.block.Block.{Block}
+use Rattle.volume_state.specs.disk_model.declared.block.BlockKind.TheVariants.{Plain, FileRec}
+use Rattle.volume_state.specs.disk_model.Content.{Content}
+use Rattle.volume_state.specs.disk_model.Laws.{IsElsewhere}
+use Rattle.volume_state.specs.disk_model.Writes.{Write, overlay}
+use Rattle.volume_state.specs.record_model.declared.attribute.Attr.{Attr}
+use Rattle.volume_state.specs.record_model.declared.runs.Run.{Run}
+use Rattle.volume_state.specs.record_model.Records.{Record}
+use Rattle.volume_state.specs.record_model.Constants.{attribute_list}
+use Rattle.volume_state.specs.state_model.declared.geometry.Geometry.{Geometry}
+use Rattle.volume_state.specs.state_model.declared.stream.Extents.{Extents}
+use Rattle.volume_state.specs.state_model.declared.stream.Stream.{Stream}
+use Rattle.volume_state.specs.state_model.declared.stream.Stream.TheVariants.{Held, Placed}
+use Rattle.volume_state.specs.state_model.Files.{only_base, is_base_record, file_at}
+use Rattle.volume_state.specs.state_model.Loads.{Free, record_count, table_slot, list_stream, named_attrs, entries_of, all_attrs, whole_file, joined_file, files_of, files_in}
+use Rattle.volume_state.specs.state_model.Streams.{is_attribute_of, attribute_runs, stream_of, block_at}
+use Rattle.volume_state.specs.volume_model.Volumes.{Volume, volume_of, file_in, file_stream}
+use Rattle.volume_state.specs.volume_model.Owners.{volume_runs, uses}
 use Rattle.stream_laws.specs.Changes.{AreElsewhere, LeavesBytes}
 use Rattle.stream_laws.specs.Leaving.{LiesFree}
 use Rattle.stream_laws.specs.Places.{AreOnce, AreApart}

@@ -6,23 +6,23 @@ use Rattle.std.specs.Option.{option_or, option_map}
 use Rattle.std.proofs.lemmas.Bool.{cases_Bool, cases_lt, and_parts, and_from, and_left, and_right, both_ways, not-true, eqb-true, eqb-false, eq-eqb, ne_eqb}
 use Rattle.std.proofs.lemmas.List.Elements.{filter-append}
 use Rattle.std.proofs.lemmas.List.Sums.{sum_by-cons, length-filter}
-use Rattle.host_base.specs.declared.file_ref.FileRef.{FileRef}
-use Rattle.host_base.specs.FileRefs.{same_reference}
-use Rattle.disk_model.specs.Content.{Content}
-use Rattle.record_model.specs.Records.{Record}
-use Rattle.file_tree.specs.declared.link.Link.{Link}
-use Rattle.file_tree.specs.Names.{name_order, same_units, same_name}
-use Rattle.file_tree.specs.declared.node.Node.{Node}
-use Rattle.file_tree.specs.Trees.{is_in, first_of_two, first_in_order, same_links, look_up}
-use Rattle.file_tree.specs.Walks.{child_in}
-use Rattle.state_model.specs.declared.stream.Stream.{Stream}
-use Rattle.state_model.specs.Files.{Table, reference, record_links, file_links, file_at, links_at, is_directory_record}
-use Rattle.state_model.specs.Loads.{table_in}
-use Rattle.state_model.specs.Rules.{implies, at_file, same_link, is_directory_with, is_directory_at, keeps_2, count_in, names_in, is_name_in, keeps_8}
-use Rattle.state_model.specs.Trees.{first_parent, parent_at, is_system, all_links}
-use Rattle.volume_model.specs.Volumes.{Volume, files_by_number, count_of, file_in}
-use Rattle.volume_model.specs.Indexes.{index_links, lists_names, keeps_index}
-use Rattle.volume_model.specs.Nodes.{kind_in, some_node, node_at, nodes_by}
+use Rattle.volume_state.specs.host_base.declared.file_ref.FileRef.{FileRef}
+use Rattle.volume_state.specs.host_base.FileRefs.{same_reference}
+use Rattle.volume_state.specs.disk_model.Content.{Content}
+use Rattle.volume_state.specs.record_model.Records.{Record}
+use Rattle.volume_state.specs.file_tree.declared.link.Link.{Link}
+use Rattle.volume_state.specs.file_tree.Names.{name_order, same_units, same_name}
+use Rattle.volume_state.specs.file_tree.declared.node.Node.{Node}
+use Rattle.volume_state.specs.file_tree.Trees.{is_in, first_of_two, first_in_order, same_links, look_up}
+use Rattle.volume_state.specs.file_tree.Walks.{child_in}
+use Rattle.volume_state.specs.state_model.declared.stream.Stream.{Stream}
+use Rattle.volume_state.specs.state_model.Files.{Table, reference, record_links, file_links, file_at, links_at, is_directory_record}
+use Rattle.volume_state.specs.state_model.Loads.{table_in}
+use Rattle.volume_state.specs.state_model.Rules.{implies, at_file, same_link, is_directory_with, is_directory_at, keeps_2, count_in, names_in, is_name_in, keeps_8}
+use Rattle.volume_state.specs.state_model.Trees.{first_parent, parent_at, is_system, all_links}
+use Rattle.volume_state.specs.volume_model.Volumes.{Volume, files_by_number, count_of, file_in}
+use Rattle.volume_state.specs.volume_model.Indexes.{index_links, lists_names, keeps_index}
+use Rattle.volume_state.specs.volume_model.Nodes.{kind_in, some_node, node_at, nodes_by}
 use Rattle.volume_state.specs.Journals.{extend_file, journal_name, journal_of}
 use Rattle.volume_state.specs.Rules.{broken_2}
 use Rattle.stream_laws.specs.Replacing.{SameBut, OneFileDiffers}

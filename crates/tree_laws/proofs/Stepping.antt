@@ -1,17 +1,17 @@
 -- A content that stands for a tree again, after writes that replace files of its volume.
 use Rattle.std.proofs.Common.{◌≡◌, ℕ, ◌*◌, ◌<◌, ◌≤◌, max, Bool, true, false, cond, eqb, leb, List, [], Option, Some, None, Ok, refl, ap, subst, ◌∙◌, inl, inr, arith}
 use Rattle.std.proofs.lemmas.Bool.{cases_lt, and_parts, leb-true}
-use Rattle.disk_model.specs.Content.{Content}
-use Rattle.disk_model.specs.Writes.{Write, overlay}
-use Rattle.record_model.specs.Records.{Record}
-use Rattle.record_model.specs.Constants.{data_type}
-use Rattle.file_tree.specs.declared.tree.Tree.{Tree}
-use Rattle.state_model.specs.declared.geometry.Geometry.{Geometry}
-use Rattle.state_model.specs.declared.stream.Extents.{Extents}
-use Rattle.state_model.specs.Loads.{record_count}
-use Rattle.state_model.specs.Rules.{implies, at_file, first_failing}
-use Rattle.volume_model.specs.Volumes.{Volume, volume_of, count_of, file_in, file_stream, table_file, bitmap_file, size_or, cluster_bitmap, record_bitmap}
-use Rattle.volume_model.specs.Sizes.{keeps_place, keeps_bitmaps, keeps_streams, keeps_sizes}
+use Rattle.volume_state.specs.disk_model.Content.{Content}
+use Rattle.volume_state.specs.disk_model.Writes.{Write, overlay}
+use Rattle.volume_state.specs.record_model.Records.{Record}
+use Rattle.volume_state.specs.record_model.Constants.{data_type}
+use Rattle.volume_state.specs.file_tree.declared.tree.Tree.{Tree}
+use Rattle.volume_state.specs.state_model.declared.geometry.Geometry.{Geometry}
+use Rattle.volume_state.specs.state_model.declared.stream.Extents.{Extents}
+use Rattle.volume_state.specs.state_model.Loads.{record_count}
+use Rattle.volume_state.specs.state_model.Rules.{implies, at_file, first_failing}
+use Rattle.volume_state.specs.volume_model.Volumes.{Volume, volume_of, count_of, file_in, file_stream, table_file, bitmap_file, size_or, cluster_bitmap, record_bitmap}
+use Rattle.volume_state.specs.volume_model.Sizes.{keeps_place, keeps_bitmaps, keeps_streams, keeps_sizes}
 use Rattle.volume_state.specs.Rules.{file_count, broken_4}
 use Rattle.volume_state.specs.Trees.{Holds, IsState, tree_of}
 use Rattle.stream_laws.specs.Replacing.{FileEdit, with_edits}

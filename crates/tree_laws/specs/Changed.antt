@@ -1,20 +1,20 @@
 -- The tree of a volume where several files change at once.
 use Rattle.std.specs.Prelude.{◌≡◌, ◌≢◌, ℕ, ◌<◌, Bool, true, false, not, ◌==◌, ◌≤◌, List, [], length, Option, Some, None}
 use Rattle.std.specs.List.{cons_option, AllByRecursion}
-use Rattle.disk_model.specs.Content.{Content}
-use Rattle.record_model.specs.Records.{Record}
-use Rattle.file_tree.specs.declared.tree.Tree.{Tree}
-use Rattle.bit_set.specs.Bits.{bit}
-use Rattle.state_model.specs.declared.stream.Stream.{Stream}
-use Rattle.state_model.specs.Files.{Table, links_at, reference, is_directory_record}
-use Rattle.state_model.specs.Loads.{table_in}
-use Rattle.state_model.specs.Rules.{keeps_1, keeps_2, keeps_8}
-use Rattle.file_tree.specs.Walks.{first_user_record}
-use Rattle.volume_model.specs.Volumes.{Volume, count_of, file_in, bytes_or, upcase_file, record_bits, upper_of}
-use Rattle.volume_model.specs.Indexes.{keeps_index}
-use Rattle.volume_model.specs.Nodes.{node_at, nodes_by, spare_at, spare_numbers}
-use Rattle.volume_model.specs.Owners.{keeps_record_bit}
-use Rattle.volume_model.specs.Sizes.{keeps_sizes}
+use Rattle.volume_state.specs.disk_model.Content.{Content}
+use Rattle.volume_state.specs.record_model.Records.{Record}
+use Rattle.volume_state.specs.file_tree.declared.tree.Tree.{Tree}
+use Rattle.volume_state.specs.bit_set.Bits.{bit}
+use Rattle.volume_state.specs.state_model.declared.stream.Stream.{Stream}
+use Rattle.volume_state.specs.state_model.Files.{Table, links_at, reference, is_directory_record}
+use Rattle.volume_state.specs.state_model.Loads.{table_in}
+use Rattle.volume_state.specs.state_model.Rules.{keeps_1, keeps_2, keeps_8}
+use Rattle.volume_state.specs.file_tree.Walks.{first_user_record}
+use Rattle.volume_state.specs.volume_model.Volumes.{Volume, count_of, file_in, bytes_or, upcase_file, record_bits, upper_of}
+use Rattle.volume_state.specs.volume_model.Indexes.{keeps_index}
+use Rattle.volume_state.specs.volume_model.Nodes.{node_at, nodes_by, spare_at, spare_numbers}
+use Rattle.volume_state.specs.volume_model.Owners.{keeps_record_bit}
+use Rattle.volume_state.specs.volume_model.Sizes.{keeps_sizes}
 use Rattle.volume_state.specs.Rules.{file_count, broken_5, broken_6, broken_9}
 use Rattle.volume_state.specs.Trees.{Holds, tree_of}
 use Rattle.stream_laws.specs.Frames.{SameRecordIn}

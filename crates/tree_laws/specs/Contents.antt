@@ -1,18 +1,18 @@
 -- What of a volume's rules, parts and nodes two contents share, where they agree on what these read.
 use Rattle.std.specs.Prelude.{◌≡◌, ◌≢◌, ℕ, ◌<◌, true, false, List, [], Some}
-use Rattle.disk_model.specs.declared.block.Block.{Block}
-use Rattle.disk_model.specs.Content.{Content}
-use Rattle.disk_model.specs.Writes.{Write, overlay}
-use Rattle.record_model.specs.Records.{Record}
-use Rattle.record_model.specs.Constants.{data_type}
-use Rattle.bit_set.specs.Bits.{bit}
-use Rattle.state_model.specs.Files.{is_directory_record}
-use Rattle.state_model.specs.Streams.{stream_of}
-use Rattle.volume_model.specs.Volumes.{Volume, count_of, file_in, file_stream, bytes_or, upcase_file, record_bitmap, record_bits, upper_of}
-use Rattle.volume_model.specs.Indexes.{index_stream, keeps_index}
-use Rattle.volume_model.specs.Sizes.{keeps_sizes}
-use Rattle.volume_model.specs.Owners.{keeps_record_bit}
-use Rattle.volume_model.specs.Nodes.{kind_in, data_shown, node_at, spare_numbers}
+use Rattle.volume_state.specs.disk_model.declared.block.Block.{Block}
+use Rattle.volume_state.specs.disk_model.Content.{Content}
+use Rattle.volume_state.specs.disk_model.Writes.{Write, overlay}
+use Rattle.volume_state.specs.record_model.Records.{Record}
+use Rattle.volume_state.specs.record_model.Constants.{data_type}
+use Rattle.volume_state.specs.bit_set.Bits.{bit}
+use Rattle.volume_state.specs.state_model.Files.{is_directory_record}
+use Rattle.volume_state.specs.state_model.Streams.{stream_of}
+use Rattle.volume_state.specs.volume_model.Volumes.{Volume, count_of, file_in, file_stream, bytes_or, upcase_file, record_bitmap, record_bits, upper_of}
+use Rattle.volume_state.specs.volume_model.Indexes.{index_stream, keeps_index}
+use Rattle.volume_state.specs.volume_model.Sizes.{keeps_sizes}
+use Rattle.volume_state.specs.volume_model.Owners.{keeps_record_bit}
+use Rattle.volume_state.specs.volume_model.Nodes.{kind_in, data_shown, node_at, spare_numbers}
 use Rattle.volume_state.specs.Journals.{entries_name, journal_file, journal_of}
 use Rattle.stream_laws.specs.Frames.{SameBytesInSome, SameRecordIn, SameIndexIn}
 

@@ -1,15 +1,15 @@
 -- The tree of a volume whose file table gets more records, none of which is in use.
 use Rattle.std.specs.Prelude.{◌≡◌, ℕ, ◌-◌, ◌*◌, ◌<◌, ◌≤◌, max, false, List, ◌++◌, map}
 use Rattle.std.specs.List.{range_with_len}
-use Rattle.host_base.specs.declared.file_ref.FileRef.{FileRef}
-use Rattle.disk_model.specs.declared.block.BlockKind.TheVariants.{FileRec}
-use Rattle.disk_model.specs.Content.{Content, is_signed}
-use Rattle.file_tree.specs.declared.tree.Tree.{Tree}
-use Rattle.bit_set.specs.Bits.{bit}
-use Rattle.state_model.specs.declared.stream.Extents.{Extents}
-use Rattle.state_model.specs.Loads.{record_count}
-use Rattle.file_tree.specs.Walks.{first_user_record}
-use Rattle.volume_model.specs.Volumes.{Volume, count_of, size_or, record_bytes, record_bitmap, record_bits}
+use Rattle.volume_state.specs.host_base.declared.file_ref.FileRef.{FileRef}
+use Rattle.volume_state.specs.disk_model.declared.block.BlockKind.TheVariants.{FileRec}
+use Rattle.volume_state.specs.disk_model.Content.{Content, is_signed}
+use Rattle.volume_state.specs.file_tree.declared.tree.Tree.{Tree}
+use Rattle.volume_state.specs.bit_set.Bits.{bit}
+use Rattle.volume_state.specs.state_model.declared.stream.Extents.{Extents}
+use Rattle.volume_state.specs.state_model.Loads.{record_count}
+use Rattle.volume_state.specs.file_tree.Walks.{first_user_record}
+use Rattle.volume_state.specs.volume_model.Volumes.{Volume, count_of, size_or, record_bytes, record_bitmap, record_bits}
 use Rattle.volume_state.specs.Trees.{Holds, tree_of}
 use Rattle.stream_laws.specs.Rewrites.{TableGoesOn, filled_up, with_table}
 

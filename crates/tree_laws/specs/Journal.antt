@@ -1,13 +1,13 @@
 -- The change journal where several files change, none of which is the journal's.
 use Rattle.std.specs.Prelude.{◌≡◌, ℕ, Bool, false, List, length, filter, Option, Some, None}
-use Rattle.disk_model.specs.Content.{Content}
-use Rattle.record_model.specs.Records.{Record}
-use Rattle.file_tree.specs.declared.link.Link.{Link}
-use Rattle.file_tree.specs.Trees.{is_in, look_up}
-use Rattle.state_model.specs.Files.{Table, links_at}
-use Rattle.state_model.specs.Loads.{table_in}
-use Rattle.state_model.specs.Trees.{all_links}
-use Rattle.volume_model.specs.Volumes.{Volume, upcase_file, upper_of}
+use Rattle.volume_state.specs.disk_model.Content.{Content}
+use Rattle.volume_state.specs.record_model.Records.{Record}
+use Rattle.volume_state.specs.file_tree.declared.link.Link.{Link}
+use Rattle.volume_state.specs.file_tree.Trees.{is_in, look_up}
+use Rattle.volume_state.specs.state_model.Files.{Table, links_at}
+use Rattle.volume_state.specs.state_model.Loads.{table_in}
+use Rattle.volume_state.specs.state_model.Trees.{all_links}
+use Rattle.volume_state.specs.volume_model.Volumes.{Volume, upcase_file, upper_of}
 use Rattle.volume_state.specs.Journals.{extend_file, journal_of}
 use Rattle.volume_state.specs.Rules.{broken_9}
 use Rattle.volume_state.specs.Trees.{volume_journal}

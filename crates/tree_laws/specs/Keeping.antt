@@ -1,8 +1,8 @@
 -- What a file keeps where it is replaced, and lists in which one part is replaced.
 use Rattle.std.specs.Prelude.{◌≡◌, ℕ, Bool, false, List, ◌++◌, Option, Some, None}
-use Rattle.record_model.specs.Records.{Record}
-use Rattle.state_model.specs.Files.{Table, file_at, links_at, is_directory_record}
-use Rattle.state_model.specs.Rules.{is_directory_with}
+use Rattle.volume_state.specs.record_model.Records.{Record}
+use Rattle.volume_state.specs.state_model.Files.{Table, file_at, links_at, is_directory_record}
+use Rattle.volume_state.specs.state_model.Rules.{is_directory_with}
 
 -- one part of a list is replaced; what stands before and behind it stays
 pub record PartReplaced {X : Type 0} (part new_part old new : List X) : Type 0 where

@@ -2,20 +2,20 @@
 -- names.
 use Rattle.std.specs.Prelude.{◌≡◌, ◌≢◌, ℕ, false, List, [], length, filter, Option, Some, None}
 use Rattle.std.specs.List.{cons_option}
-use Rattle.host_base.specs.declared.file_ref.FileRef.{FileRef}
-use Rattle.host_base.specs.FileRefs.{same_reference}
-use Rattle.disk_model.specs.Content.{Content}
-use Rattle.record_model.specs.Records.{Record}
-use Rattle.file_tree.specs.declared.link.Link.{Link}
-use Rattle.file_tree.specs.Trees.{look_up}
-use Rattle.state_model.specs.declared.stream.Stream.{Stream}
-use Rattle.state_model.specs.Files.{Table, links_at, reference}
-use Rattle.state_model.specs.Loads.{table_in}
-use Rattle.state_model.specs.Rules.{keeps_2, names_in, keeps_8}
-use Rattle.state_model.specs.Trees.{all_links}
-use Rattle.volume_model.specs.Volumes.{Volume, files_by_number, count_of, file_in}
-use Rattle.volume_model.specs.Indexes.{keeps_index}
-use Rattle.volume_model.specs.Nodes.{kind_in, node_at, nodes_by}
+use Rattle.volume_state.specs.host_base.declared.file_ref.FileRef.{FileRef}
+use Rattle.volume_state.specs.host_base.FileRefs.{same_reference}
+use Rattle.volume_state.specs.disk_model.Content.{Content}
+use Rattle.volume_state.specs.record_model.Records.{Record}
+use Rattle.volume_state.specs.file_tree.declared.link.Link.{Link}
+use Rattle.volume_state.specs.file_tree.Trees.{look_up}
+use Rattle.volume_state.specs.state_model.declared.stream.Stream.{Stream}
+use Rattle.volume_state.specs.state_model.Files.{Table, links_at, reference}
+use Rattle.volume_state.specs.state_model.Loads.{table_in}
+use Rattle.volume_state.specs.state_model.Rules.{keeps_2, names_in, keeps_8}
+use Rattle.volume_state.specs.state_model.Trees.{all_links}
+use Rattle.volume_state.specs.volume_model.Volumes.{Volume, files_by_number, count_of, file_in}
+use Rattle.volume_state.specs.volume_model.Indexes.{keeps_index}
+use Rattle.volume_state.specs.volume_model.Nodes.{kind_in, node_at, nodes_by}
 use Rattle.volume_state.specs.Journals.{extend_file, journal_of}
 use Rattle.volume_state.specs.Rules.{broken_2}
 use Rattle.stream_laws.specs.Replacing.{SameBut, OneFileDiffers}

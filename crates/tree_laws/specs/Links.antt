@@ -1,9 +1,9 @@
 -- The names of a volume where one file is replaced.
 use Rattle.std.specs.Prelude.{◌≡◌, ◌≢◌, ℕ, List, length, Option}
-use Rattle.record_model.specs.Records.{Record}
-use Rattle.state_model.specs.Files.{Table, links_at}
-use Rattle.state_model.specs.Loads.{table_in}
-use Rattle.state_model.specs.Trees.{all_links}
+use Rattle.volume_state.specs.record_model.Records.{Record}
+use Rattle.volume_state.specs.state_model.Files.{Table, links_at}
+use Rattle.volume_state.specs.state_model.Loads.{table_in}
+use Rattle.volume_state.specs.state_model.Trees.{all_links}
 use Rattle.stream_laws.specs.Replacing.{SameBut, OneFileDiffers}
 use Rattle.tree_laws.specs.Keeping.{PartReplaced, KeepsNames}
 

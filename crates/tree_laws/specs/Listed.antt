@@ -1,14 +1,14 @@
 -- Rule 3 at a directory in which a file gets other names.
 use Rattle.std.specs.Prelude.{◌≡◌, ◌≢◌, ℕ, ◌+◌, ◌<◌, true, false, List, [], ◌∷◌, length, Some}
 use Rattle.std.specs.List.{list_all, AllByRecursion}
-use Rattle.host_base.specs.declared.file_ref.FileRef.{FileRef}
-use Rattle.disk_model.specs.Content.{Content}
-use Rattle.record_model.specs.Records.{Record}
-use Rattle.file_tree.specs.declared.link.Link.{Link}
-use Rattle.state_model.specs.Files.{Table, links_at, reference, is_directory_record}
-use Rattle.state_model.specs.Rules.{same_link, count_in, is_rising, is_name_in, is_index}
-use Rattle.volume_model.specs.Volumes.{Volume, files_by_number, count_of, file_in}
-use Rattle.volume_model.specs.Indexes.{index_links, keeps_index}
+use Rattle.volume_state.specs.host_base.declared.file_ref.FileRef.{FileRef}
+use Rattle.volume_state.specs.disk_model.Content.{Content}
+use Rattle.volume_state.specs.record_model.Records.{Record}
+use Rattle.volume_state.specs.file_tree.declared.link.Link.{Link}
+use Rattle.volume_state.specs.state_model.Files.{Table, links_at, reference, is_directory_record}
+use Rattle.volume_state.specs.state_model.Rules.{same_link, count_in, is_rising, is_name_in, is_index}
+use Rattle.volume_state.specs.volume_model.Volumes.{Volume, files_by_number, count_of, file_in}
+use Rattle.volume_state.specs.volume_model.Indexes.{index_links, keeps_index}
 use Rattle.stream_laws.specs.Replacing.{SameBut}
 use Rattle.tree_laws.specs.Keeping.{PartReplaced}
 use Rattle.tree_laws.specs.Leaves.{names_there}

@@ -1,19 +1,19 @@
 -- The tree after some files change, by look-up.
 use Rattle.std.specs.Prelude.{◌≡◌, ℕ, ◌+◌, ◌==◌, ◌&&◌, ◌||◌, Bool, false, nat_le, nat_lt, if◌then◌else◌, List, [], ◌∷◌, ◌++◌, length, find, Option, None}
 use Rattle.std.specs.List.Sorted.{IsPermutation}
-use Rattle.host_base.specs.declared.file_ref.FileRef.{FileRef}
-use Rattle.disk_model.specs.Content.{Content}
-use Rattle.record_model.specs.Records.{Record}
-use Rattle.file_tree.specs.declared.link.Link.{Link}
-use Rattle.file_tree.specs.declared.tree.Tree.{Tree}
-use Rattle.file_tree.specs.Trees.{node_at as node_by_number}
-use Rattle.state_model.specs.declared.stream.Extents.{Extents}
-use Rattle.state_model.specs.Files.{links_at}
-use Rattle.state_model.specs.Loads.{table_in}
-use Rattle.file_tree.specs.Walks.{first_user_record}
-use Rattle.state_model.specs.Trees.{all_links}
-use Rattle.volume_model.specs.Volumes.{Volume, count_of, bytes_or, cluster_bits}
-use Rattle.volume_model.specs.Nodes.{node_at, spare_at, spare_numbers}
+use Rattle.volume_state.specs.host_base.declared.file_ref.FileRef.{FileRef}
+use Rattle.volume_state.specs.disk_model.Content.{Content}
+use Rattle.volume_state.specs.record_model.Records.{Record}
+use Rattle.volume_state.specs.file_tree.declared.link.Link.{Link}
+use Rattle.volume_state.specs.file_tree.declared.tree.Tree.{Tree}
+use Rattle.volume_state.specs.file_tree.Trees.{node_at as node_by_number}
+use Rattle.volume_state.specs.state_model.declared.stream.Extents.{Extents}
+use Rattle.volume_state.specs.state_model.Files.{links_at}
+use Rattle.volume_state.specs.state_model.Loads.{table_in}
+use Rattle.volume_state.specs.file_tree.Walks.{first_user_record}
+use Rattle.volume_state.specs.state_model.Trees.{all_links}
+use Rattle.volume_state.specs.volume_model.Volumes.{Volume, count_of, bytes_or, cluster_bits}
+use Rattle.volume_state.specs.volume_model.Nodes.{node_at, spare_at, spare_numbers}
 use Rattle.volume_state.specs.Trees.{Holds, volume_journal, tree_of}
 use Rattle.stream_laws.specs.Replacing.{FileEdit, with_edits, AreEdits, edit_links}
 use Rattle.stream_laws.specs.Rewrites.{with_files}

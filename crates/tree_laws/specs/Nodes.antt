@@ -1,15 +1,15 @@
 -- The nodes of a volume where a file that keeps its names is replaced.
 use Rattle.std.specs.Prelude.{◌≡◌, ◌≢◌, ℕ, List, [], Option}
 use Rattle.std.specs.List.{cons_option}
-use Rattle.record_model.specs.Records.{Record}
-use Rattle.file_tree.specs.declared.link.Link.{Link}
-use Rattle.file_tree.specs.Trees.{node_at as node_by_number}
-use Rattle.state_model.specs.declared.stream.Stream.{Stream}
-use Rattle.state_model.specs.Files.{Table}
-use Rattle.state_model.specs.Loads.{table_in}
-use Rattle.state_model.specs.Trees.{parent_at, leads, is_in_system, is_system}
-use Rattle.volume_model.specs.Volumes.{Volume, file_in}
-use Rattle.volume_model.specs.Nodes.{kind_in, some_node, node_at, nodes_by}
+use Rattle.volume_state.specs.record_model.Records.{Record}
+use Rattle.volume_state.specs.file_tree.declared.link.Link.{Link}
+use Rattle.volume_state.specs.file_tree.Trees.{node_at as node_by_number}
+use Rattle.volume_state.specs.state_model.declared.stream.Stream.{Stream}
+use Rattle.volume_state.specs.state_model.Files.{Table}
+use Rattle.volume_state.specs.state_model.Loads.{table_in}
+use Rattle.volume_state.specs.state_model.Trees.{parent_at, leads, is_in_system, is_system}
+use Rattle.volume_state.specs.volume_model.Volumes.{Volume, file_in}
+use Rattle.volume_state.specs.volume_model.Nodes.{kind_in, some_node, node_at, nodes_by}
 use Rattle.stream_laws.specs.Replacing.{SameBut, OneFileDiffers}
 use Rattle.stream_laws.specs.Rewrites.{with_files}
 use Rattle.tree_laws.specs.Keeping.{PartReplaced, KeepsNames}

@@ -1,11 +1,11 @@
 -- Rules 5 and 6 of a volume where files take clusters and give them back.
 use Rattle.std.specs.Prelude.{◌≡◌, ◌≢◌, ℕ, ◌+◌, ◌<◌, ◌≤◌, Bool, true, false, List, Option, None}
-use Rattle.disk_model.specs.Content.{Content}
-use Rattle.record_model.specs.Records.{Record}
-use Rattle.bit_set.specs.Bits.{bit}
-use Rattle.state_model.specs.Loads.{table_in}
-use Rattle.volume_model.specs.Volumes.{Volume, bitmap_file, cluster_bits}
-use Rattle.volume_model.specs.Owners.{file_runs, volume_runs, uses}
+use Rattle.volume_state.specs.disk_model.Content.{Content}
+use Rattle.volume_state.specs.record_model.Records.{Record}
+use Rattle.volume_state.specs.bit_set.Bits.{bit}
+use Rattle.volume_state.specs.state_model.Loads.{table_in}
+use Rattle.volume_state.specs.volume_model.Volumes.{Volume, bitmap_file, cluster_bits}
+use Rattle.volume_state.specs.volume_model.Owners.{file_runs, volume_runs, uses}
 use Rattle.volume_state.specs.Rules.{broken_5, broken_6}
 use Rattle.stream_laws.specs.Replacing.{OneFileDiffers}
 use Rattle.stream_laws.specs.Rewrites.{with_files}

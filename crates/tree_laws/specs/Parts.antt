@@ -1,12 +1,12 @@
 -- The parts of a volume that don't read a file that is replaced.
 use Rattle.std.specs.Prelude.{◌≡◌, ◌≢◌, ℕ, List, Option, Some}
-use Rattle.disk_model.specs.Content.{Content}
-use Rattle.record_model.specs.Records.{Record}
-use Rattle.file_tree.specs.Walks.{child_in}
-use Rattle.state_model.specs.Loads.{table_in}
-use Rattle.state_model.specs.Trees.{all_links}
-use Rattle.volume_model.specs.Volumes.{Volume, files_by_number, count_of, table_file, bitmap_file, upcase_file, record_bits, cluster_bits, upper_of}
-use Rattle.volume_model.specs.Nodes.{spare_numbers, free_clusters}
+use Rattle.volume_state.specs.disk_model.Content.{Content}
+use Rattle.volume_state.specs.record_model.Records.{Record}
+use Rattle.volume_state.specs.file_tree.Walks.{child_in}
+use Rattle.volume_state.specs.state_model.Loads.{table_in}
+use Rattle.volume_state.specs.state_model.Trees.{all_links}
+use Rattle.volume_state.specs.volume_model.Volumes.{Volume, files_by_number, count_of, table_file, bitmap_file, upcase_file, record_bits, cluster_bits, upper_of}
+use Rattle.volume_state.specs.volume_model.Nodes.{spare_numbers, free_clusters}
 use Rattle.volume_state.specs.Journals.{extend_file, journal_name, journal_file, journal_of}
 use Rattle.stream_laws.specs.Replacing.{OneFileDiffers}
 use Rattle.stream_laws.specs.Rewrites.{with_files}

@@ -1,22 +1,22 @@
 -- What writes leave that go to the blocks of a few streams and of a few file records, and to free clusters.
 use Rattle.std.specs.Prelude.{◌≡◌, ◌≢◌, ◌⊎◌, ℕ, ◌<◌, ◌≤◌, ◌==◌, Bool, true, false, List, [], Some}
 use Rattle.std.specs.List.{AllByRecursion}
-use Rattle.disk_model.specs.declared.block.BlockKind.{BlockKind}
-use Rattle.disk_model.specs.declared.block.BlockKind.TheVariants.{FileRec}
-use Rattle.disk_model.specs.Content.{Content, HasSizes}
-use Rattle.disk_model.specs.Writes.{Write, overlay}
-use Rattle.record_model.specs.Records.{Record}
-use Rattle.record_model.specs.Constants.{attribute_list, data_type, names_index, index_allocation, bitmap_type}
-use Rattle.bit_set.specs.Bits.{bit}
-use Rattle.state_model.specs.declared.geometry.Geometry.{Geometry}
-use Rattle.state_model.specs.declared.stream.Extents.{Extents}
-use Rattle.state_model.specs.Files.{is_directory_record}
-use Rattle.state_model.specs.Loads.{Free, record_count, table_slot, list_stream, entries_of}
-use Rattle.state_model.specs.Streams.{block_at}
-use Rattle.volume_model.specs.Volumes.{Volume, count_of, file_in, table_file, upcase_file, record_bits, upper_of}
-use Rattle.volume_model.specs.Indexes.{void_block}
-use Rattle.volume_model.specs.Nodes.{kind_in, shows_data}
-use Rattle.volume_model.specs.Owners.{volume_runs}
+use Rattle.volume_state.specs.disk_model.declared.block.BlockKind.{BlockKind}
+use Rattle.volume_state.specs.disk_model.declared.block.BlockKind.TheVariants.{FileRec}
+use Rattle.volume_state.specs.disk_model.Content.{Content, HasSizes}
+use Rattle.volume_state.specs.disk_model.Writes.{Write, overlay}
+use Rattle.volume_state.specs.record_model.Records.{Record}
+use Rattle.volume_state.specs.record_model.Constants.{attribute_list, data_type, names_index, index_allocation, bitmap_type}
+use Rattle.volume_state.specs.bit_set.Bits.{bit}
+use Rattle.volume_state.specs.state_model.declared.geometry.Geometry.{Geometry}
+use Rattle.volume_state.specs.state_model.declared.stream.Extents.{Extents}
+use Rattle.volume_state.specs.state_model.Files.{is_directory_record}
+use Rattle.volume_state.specs.state_model.Loads.{Free, record_count, table_slot, list_stream, entries_of}
+use Rattle.volume_state.specs.state_model.Streams.{block_at}
+use Rattle.volume_state.specs.volume_model.Volumes.{Volume, count_of, file_in, table_file, upcase_file, record_bits, upper_of}
+use Rattle.volume_state.specs.volume_model.Indexes.{void_block}
+use Rattle.volume_state.specs.volume_model.Nodes.{kind_in, shows_data}
+use Rattle.volume_state.specs.volume_model.Owners.{volume_runs}
 use Rattle.volume_state.specs.Journals.{entries_name}
 use Rattle.stream_laws.specs.Changes.{AreElsewhere, LeavesBytes, LeavesRecord, LeavesIndex}
 use Rattle.stream_laws.specs.Leaving.{LiesFree}

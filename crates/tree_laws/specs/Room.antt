@@ -1,10 +1,10 @@
 -- How many clusters are free after some were taken and some given back.
 use Rattle.std.specs.Prelude.{◌≡◌, ℕ, ◌+◌, Bool, not, ◌&&◌, List, count_by}
 use Rattle.std.specs.List.{range_with_len}
-use Rattle.disk_model.specs.Content.{Content}
-use Rattle.bit_set.specs.Bits.{bit}
-use Rattle.volume_model.specs.Volumes.{Volume, cluster_bits}
-use Rattle.volume_model.specs.Nodes.{free_clusters}
+use Rattle.volume_state.specs.disk_model.Content.{Content}
+use Rattle.volume_state.specs.bit_set.Bits.{bit}
+use Rattle.volume_state.specs.volume_model.Volumes.{Volume, cluster_bits}
+use Rattle.volume_state.specs.volume_model.Nodes.{free_clusters}
 
 -- how many of the first so many bits were clear and are set, and how many were set and are clear
 abbrev pub newly_set : ℕ → List Bool → List Bool → ℕ

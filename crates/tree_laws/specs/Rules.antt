@@ -1,14 +1,14 @@
 -- The rules of a volume at numbers other than that of a file that is replaced.
 use Rattle.std.specs.Prelude.{◌≡◌, ◌≢◌, ℕ, false, List, Option, Some}
-use Rattle.disk_model.specs.Content.{Content}
-use Rattle.record_model.specs.Records.{Record}
-use Rattle.state_model.specs.Files.{Table, file_at, is_directory_record}
-use Rattle.state_model.specs.Loads.{table_in}
-use Rattle.state_model.specs.Rules.{keeps_1, keeps_2, keeps_8}
-use Rattle.volume_model.specs.Volumes.{Volume, table_file}
-use Rattle.volume_model.specs.Indexes.{keeps_index}
-use Rattle.volume_model.specs.Sizes.{keeps_sizes}
-use Rattle.volume_model.specs.Owners.{keeps_record_bit}
+use Rattle.volume_state.specs.disk_model.Content.{Content}
+use Rattle.volume_state.specs.record_model.Records.{Record}
+use Rattle.volume_state.specs.state_model.Files.{Table, file_at, is_directory_record}
+use Rattle.volume_state.specs.state_model.Loads.{table_in}
+use Rattle.volume_state.specs.state_model.Rules.{keeps_1, keeps_2, keeps_8}
+use Rattle.volume_state.specs.volume_model.Volumes.{Volume, table_file}
+use Rattle.volume_state.specs.volume_model.Indexes.{keeps_index}
+use Rattle.volume_state.specs.volume_model.Sizes.{keeps_sizes}
+use Rattle.volume_state.specs.volume_model.Owners.{keeps_record_bit}
 use Rattle.stream_laws.specs.Replacing.{SameBut, OneFileDiffers}
 use Rattle.stream_laws.specs.Rewrites.{with_files}
 use Rattle.tree_laws.specs.Keeping.{KeepsNames, KeepsDirectory, is_directory_file}

@@ -1,13 +1,13 @@
 -- A content that stands for a tree again, after writes that replace files of its volume and may let its file table grow.
 use Rattle.std.specs.Prelude.{◌≡◌, ℕ, ◌<◌, ◌≤◌, Bool, false, List, Ok, None}
 use Rattle.std.specs.List.{AllByRecursion}
-use Rattle.disk_model.specs.Content.{Content, HasSizes}
-use Rattle.disk_model.specs.Writes.{Write, overlay}
-use Rattle.file_tree.specs.declared.tree.Tree.{Tree}
-use Rattle.state_model.specs.declared.geometry.Geometry.{Geometry}
-use Rattle.state_model.specs.declared.stream.Extents.{Extents}
-use Rattle.state_model.specs.Loads.{table_of}
-use Rattle.volume_model.specs.Volumes.{Volume, volume_of, count_of}
+use Rattle.volume_state.specs.disk_model.Content.{Content, HasSizes}
+use Rattle.volume_state.specs.disk_model.Writes.{Write, overlay}
+use Rattle.volume_state.specs.file_tree.declared.tree.Tree.{Tree}
+use Rattle.volume_state.specs.state_model.declared.geometry.Geometry.{Geometry}
+use Rattle.volume_state.specs.state_model.declared.stream.Extents.{Extents}
+use Rattle.volume_state.specs.state_model.Loads.{table_of}
+use Rattle.volume_state.specs.volume_model.Volumes.{Volume, volume_of, count_of}
 use Rattle.volume_state.specs.Rules.{broken_4}
 use Rattle.volume_state.specs.Trees.{Holds, IsState, tree_of}
 use Rattle.stream_laws.specs.Replacing.{FileEdit, with_edits, AreEdits}

@@ -1,16 +1,16 @@
 -- The tree of a volume where a user's file that is no directory is replaced.
 use Rattle.std.specs.Prelude.{◌≡◌, ◌≢◌, ℕ, ◌≤◌, true, false, List, [], Option, Some, None}
 use Rattle.std.specs.List.{cons_option}
-use Rattle.disk_model.specs.Content.{Content}
-use Rattle.record_model.specs.Records.{Record}
-use Rattle.file_tree.specs.declared.node.Node.{Node}
-use Rattle.file_tree.specs.declared.tree.Tree.{Tree}
-use Rattle.state_model.specs.Loads.{table_in}
-use Rattle.file_tree.specs.Walks.{first_user_record}
-use Rattle.state_model.specs.Rules.{keeps_1}
-use Rattle.volume_model.specs.Volumes.{Volume, file_in, bytes_or, cluster_bitmap, upper_of}
-use Rattle.volume_model.specs.Nodes.{node_at}
-use Rattle.volume_model.specs.Sizes.{keeps_sizes}
+use Rattle.volume_state.specs.disk_model.Content.{Content}
+use Rattle.volume_state.specs.record_model.Records.{Record}
+use Rattle.volume_state.specs.file_tree.declared.node.Node.{Node}
+use Rattle.volume_state.specs.file_tree.declared.tree.Tree.{Tree}
+use Rattle.volume_state.specs.state_model.Loads.{table_in}
+use Rattle.volume_state.specs.file_tree.Walks.{first_user_record}
+use Rattle.volume_state.specs.state_model.Rules.{keeps_1}
+use Rattle.volume_state.specs.volume_model.Volumes.{Volume, file_in, bytes_or, cluster_bitmap, upper_of}
+use Rattle.volume_state.specs.volume_model.Nodes.{node_at}
+use Rattle.volume_state.specs.volume_model.Sizes.{keeps_sizes}
 use Rattle.volume_state.specs.Rules.{broken_5, broken_6}
 use Rattle.volume_state.specs.Trees.{Holds, tree_of}
 use Rattle.stream_laws.specs.Frames.{SameBytesInSome}

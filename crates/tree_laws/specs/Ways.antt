@@ -1,13 +1,13 @@
 -- The way up from files, where each file on it keeps its names.
 use Rattle.std.specs.Prelude.{◌≡◌, ◌≢◌, ℕ, ◌≤◌, Bool, true, ◌||◌, nat_lt, List, length, Option, Some}
 use Rattle.std.specs.List.{AllByRecursion}
-use Rattle.record_model.specs.Records.{Record}
-use Rattle.file_tree.specs.declared.link.Link.{Link}
-use Rattle.file_tree.specs.Walks.{root, first_user_record}
-use Rattle.state_model.specs.Files.{Table, file_at, links_at}
-use Rattle.state_model.specs.Loads.{table_in}
-use Rattle.state_model.specs.Rules.{keeps_8}
-use Rattle.state_model.specs.Trees.{parent_at, leads, is_in_system, is_system}
+use Rattle.volume_state.specs.record_model.Records.{Record}
+use Rattle.volume_state.specs.file_tree.declared.link.Link.{Link}
+use Rattle.volume_state.specs.file_tree.Walks.{root, first_user_record}
+use Rattle.volume_state.specs.state_model.Files.{Table, file_at, links_at}
+use Rattle.volume_state.specs.state_model.Loads.{table_in}
+use Rattle.volume_state.specs.state_model.Rules.{keeps_8}
+use Rattle.volume_state.specs.state_model.Trees.{parent_at, leads, is_in_system, is_system}
 
 -- no name among these stands in this directory
 abbrev pub IsOutside : ℕ → List Link → Type 0

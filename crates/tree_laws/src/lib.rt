@@ -13,3 +13,4 @@ pub use laws::{
     planned_writes, room_counted, rules_elsewhere, states_follow, table_grown, tree_replaced,
     trees_by_look_up, ways_are_short, ways_kept,
 };
+pub use stream_laws::owned_once;

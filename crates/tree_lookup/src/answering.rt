@@ -11,10 +11,10 @@ ghost use Rattle.tree_lookup.specs.Answered.{IsRead, LooksAt};
 use crate::fault::LookupFault;
 use crate::looking::Lookup;
 use crate::walking::{reached, reached_directory};
+use file_tree::check;
 use host_base::Bytes;
 use std::alloc::Global;
 use tree_model::{Node, Op, Path, Reply, Units, count_read, read_refusal};
-use utf16_name::check;
 
 /// Whether a part of the path is no name.
 #[tactic(auto, unfolding(file_tree::specs::Walks::has_bad_part))]

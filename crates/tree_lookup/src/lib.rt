@@ -14,7 +14,12 @@ mod walking;
 
 pub use answering::{answer, has_bad_part, looked};
 pub use fault::LookupFault;
+pub use file_tree::{FIRST_USER_RECORD, FileRefList, LinkList, NameFault, NodeList};
 pub use looking::Lookup;
 pub use plain::Plain;
-pub use tree_model::{FileRef, Kind, Link, Name, NameList, Node, Op, Path, Reply, Tree, Units};
+pub use tree_model::{
+    FileRef, Kind, Link, Name, NameList, Node, Op, Path, Reply, Tree, Units, change_refusal,
+    changes_file, fixed_names, is_bad_new_path, is_in_system, least_ref, needed_to_create,
+    new_name, no_space, parent_path, table_full,
+};
 pub use walking::{reached, reached_directory};

@@ -10,10 +10,9 @@ ghost use Rattle.tree_lookup.specs.Answered.{bare_result};
 
 use crate::fault::LookupFault;
 use crate::looking::Lookup;
-use file_tree::ROOT;
+use file_tree::{NameFault, ROOT};
 use std::alloc::Global;
 use tree_model::{Kind, Name, Node, Reply, Units};
-use utf16_name::NameFault;
 
 /// Whether it is the kind of a directory.
 pub fn is_directory_kind(kind: Kind) -> bool

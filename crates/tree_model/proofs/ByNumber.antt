@@ -6,7 +6,7 @@ use Rattle.std.proofs.lemmas.Bool.Decides.{nat_tests}
 use Rattle.std.proofs.lemmas.List.Folds.{find-append}
 use Rattle.file_tree.specs.declared.node.Node.{Node}
 use Rattle.file_tree.specs.Trees.{has_number, node_at}
-use Rattle.host_base.specs.declared.file_ref.FileRef.{FileRef}
+use Rattle.file_tree.specs.host_base.declared.file_ref.FileRef.{FileRef}
 use Rattle.tree_model.specs.Effects.{with_node, has_ref_number, ref_at}
 
 gone_by : {X : Type 0} (b : Bool) (x : X) (p : X → Bool) (rest : List X) → p x ≡ b → find p rest ≡ None → find p (cond (not b) (x ∷ rest) rest) ≡ None

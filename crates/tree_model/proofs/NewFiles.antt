@@ -7,11 +7,11 @@ use Rattle.std.proofs.lemmas.Bool.Decides.{nat_tests}
 use Rattle.std.proofs.lemmas.List.FromFn.{map-range_with_len_more, length-map-range_with_len}
 use Rattle.std.proofs.lemmas.List.Folds.{list_any_at}
 use Rattle.std.proofs.lemmas.List.Sorted.{IsPermutation-append_comm}
-use Rattle.host_base.specs.declared.file_ref.FileRef.{FileRef}
-use Rattle.host_base.specs.Answers.{Explains}
-use Rattle.utf16_name.specs.declared.name.NameFault.{NameFault}
-use Rattle.utf16_name.specs.declared.name.NameFault.TheVariants as fault
-use Rattle.utf16_name.specs.Names.{name_fault, name_of, ok_unless, name_cause}
+use Rattle.file_tree.specs.host_base.declared.file_ref.FileRef.{FileRef}
+use Rattle.file_tree.specs.host_base.Answers.{Explains}
+use Rattle.file_tree.specs.utf16_name.declared.name.NameFault.{NameFault}
+use Rattle.file_tree.specs.utf16_name.declared.name.NameFault.TheVariants as fault
+use Rattle.file_tree.specs.utf16_name.Names.{name_fault, name_of, ok_unless, name_cause}
 use Rattle.file_tree.specs.declared.link.Link.{Link}
 use Rattle.file_tree.specs.declared.tree.Tree.{Tree}
 use Rattle.file_tree.specs.Walks.{is_bad_part, has_bad_part}

@@ -1,7 +1,7 @@
 -- A walk that ends early is refused.
 use Rattle.std.proofs.Common.{◌≡◌, false, ap, refl}
 use Rattle.std.specs.Prelude.{◌≢◌, Some, Result, Err}
-use Rattle.host_base.specs.Answers.{Explains}
+use Rattle.file_tree.specs.host_base.Answers.{Explains}
 use Rattle.file_tree.specs.declared.node.Node.{Node}
 use Rattle.tree_model.specs.declared.reply.Reply.{Reply}
 use Rattle.tree_model.specs.declared.reply.Reply.TheVariants.{Fault, Memory}

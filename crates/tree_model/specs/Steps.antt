@@ -1,6 +1,6 @@
 -- One step of the file tree: what an operation answers, and what it leaves.
 use Rattle.std.specs.Prelude.{◌≡◌, ℕ, Bool, true, false, List, [], ◌∷◌, Option, Some, None, Result, Ok, Err, IsOkAnd, IsSomeAnd, MatchBool, All, length, ◌^◌, ◌<◌, ◌≤◌, ⊤}
-use Rattle.host_base.specs.Answers.{Cause, refused, no_memory, never}
+use Rattle.file_tree.specs.host_base.Answers.{Cause, refused, no_memory, never}
 use Rattle.file_tree.specs.declared.node.Node.{Node}
 use Rattle.file_tree.specs.declared.link.Link.{Link}
 use Rattle.file_tree.specs.declared.tree.Tree.{Tree}

@@ -1,6 +1,6 @@
 -- The walk of a path from the root.
 use Rattle.std.specs.Prelude.{ℕ, ◌+◌, if◌then◌else◌, List, [], ◌∷◌, length, Option, Some, None, Result, Ok, Err}
-use Rattle.host_base.specs.Answers.{◌>>=◌, needs}
+use Rattle.file_tree.specs.host_base.Answers.{◌>>=◌, needs}
 use Rattle.file_tree.specs.declared.node.Node.{Node}
 use Rattle.file_tree.specs.declared.link.Link.{Link}
 use Rattle.tree_model.specs.declared.reply.Reply.{Reply}

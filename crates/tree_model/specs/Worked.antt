@@ -1,7 +1,7 @@
 -- Worked rows of what refuses operations on files, and of bytes that are written.
 use Rattle.std.specs.Prelude.{◌≡◌, ℕ, false, List, [], ◌∷◌, ◌++◌, Option, Some, None}
 use Rattle.std.specs.List.{range_with_len}
-use Rattle.host_base.specs.declared.file_ref.FileRef.{FileRef}
+use Rattle.file_tree.specs.host_base.declared.file_ref.FileRef.{FileRef}
 use Rattle.file_tree.specs.declared.node.Kind.{Kind}
 use Rattle.file_tree.specs.declared.node.Kind.TheVariants as kind
 use Rattle.file_tree.specs.declared.node.Why.{Why}

@@ -1,6 +1,6 @@
 //! What refuses an operation on a file.
 ghost use Rattle.std.specs.Prelude.{◌≡◌, ◌<◌, ◌≤◌, ◌+◌, [], true, false, None, length, IfOk, IfSome, IfNone};
-ghost use Rattle.utf16_name.specs.Names.{name_fault};
+ghost use Rattle.file_tree.specs.utf16_name.Names.{name_fault};
 ghost use Rattle.tree_model.specs.Needs.{changes_file, needed};
 ghost use Rattle.file_tree.specs.Trees.{is_directory_kind};
 ghost use Rattle.file_tree.specs.declared.node.Node.{Node as the_node};
@@ -13,9 +13,8 @@ use crate::plain::same_links;
 use crate::reply::Reply;
 use crate::script::Op;
 use crate::stepping::{has_bad_part, is_directory_kind};
-use file_tree::{FIRST_USER_RECORD, Kind, Link, Node, ROOT, Tree, Why};
+use file_tree::{FIRST_USER_RECORD, Kind, Link, Node, ROOT, Tree, Units, Why};
 use std::alloc::{AllocError, Global};
-use utf16_name::Units;
 
 // The most bytes that an operation writes, those of a gap among them.
 const MOST_WRITTEN: u64 = 65_536;

@@ -14,10 +14,8 @@ use crate::plain::Plain;
 use crate::reply::Reply;
 use crate::script::Op;
 use crate::stepping::{has_bad_part, reached};
-use file_tree::{Node, Tree};
-use host_base::Memory;
+use file_tree::{Memory, Node, Tree, Units};
 use std::alloc::{AllocError, Global};
-use utf16_name::Units;
 
 /// The clusters of a file whose bytes are outside its record after an operation.
 pub fn clusters_after(op: &Op, node: &Node) -> u64

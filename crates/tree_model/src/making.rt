@@ -1,8 +1,8 @@
 //! Steps that make a file, on plain lists.
 ghost use Rattle.std.specs.Prelude.{◌≡◌, ◌+◌, ◌<◌, ◌≤◌, ◌^◌, ◌∷◌, [], ◌==◌, false, not, None, Some, IfOk, IsSomeAnd, List, ℕ, length, filter, if◌then◌else◌};
 ghost use Rattle.std.specs.List.Sorted.{IsPermutation};
-ghost use Rattle.host_base.specs.declared.file_ref.FileRef.{FileRef as the_ref};
-ghost use Rattle.utf16_name.specs.Names.{name_fault};
+ghost use Rattle.file_tree.specs.host_base.declared.file_ref.FileRef.{FileRef as the_ref};
+ghost use Rattle.file_tree.specs.utf16_name.Names.{name_fault};
 ghost use Rattle.file_tree.specs.Trees.{node_at};
 ghost use Rattle.tree_model.specs.declared.script.Op.TheVariants.{Create};
 ghost use Rattle.tree_model.specs.declared.reply.Reply.TheVariants.{Created, BadName};
@@ -18,10 +18,11 @@ use crate::needs::needed_to_create;
 use crate::plain::Plain;
 use crate::reply::Reply;
 use crate::stepping::reached_directory;
-use file_tree::{FIRST_USER_RECORD, FileRef, FileRefList, Link, LinkList, Node, NodeList, Tree};
-use host_base::Memory;
+use file_tree::{
+    FIRST_USER_RECORD, FileRef, FileRefList, Link, LinkList, Memory, Name, NameFault, Node,
+    NodeList, Tree, Units,
+};
 use std::alloc::{AllocError, Global};
-use utf16_name::{Name, NameFault, Units};
 
 // The numbers that come where none is spare.
 #[tactic(auto, using(crate::proofs::NewFiles::one_number), unfolding(crate::specs::Effects::new_numbers))]

@@ -1,8 +1,8 @@
 ghost use Rattle.std.specs.Prelude.{◌≡◌, [], ◌∷◌, ◌++◌, IfOk, OnOk, OnErr};
 
+use file_tree::Units;
 use std::alloc::{AllocError, Global};
 use std::marker::Model;
-use utf16_name::Units;
 
 /// A path: the parts behind its slashes, which contracts see as a list of lists of units. A part
 /// need not be a lawful name; `/` has no parts.

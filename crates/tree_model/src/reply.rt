@@ -1,9 +1,8 @@
 ghost use Rattle.std.specs.Prelude.{◌≡◌, [], ◌∷◌, ◌++◌, IfOk, OnOk, OnErr};
 
-use file_tree::{Bytes, Kind, UsnList, Why};
+use file_tree::{Bytes, Kind, Name, UsnList, Why};
 use std::alloc::{AllocError, Global};
 use std::marker::Model;
-use utf16_name::Name;
 
 /// Names, which contracts see as a list of lists of units.
 #[derive(Debug, Drop)]

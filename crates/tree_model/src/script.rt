@@ -1,10 +1,9 @@
 ghost use Rattle.std.specs.Prelude.{◌≡◌, [], ◌∷◌, ◌++◌, IfOk, OnOk, OnErr};
 
 use crate::path::Path;
-use host_base::Bytes;
+use file_tree::{Bytes, Name};
 use std::alloc::{AllocError, Global};
 use std::marker::Model;
-use utf16_name::Name;
 
 /// An operation on the tree, with its words. Offsets, counts and sizes are in bytes.
 #[derive(Debug, Drop)]

@@ -1,5 +1,5 @@
 ghost use Rattle.std.specs.Prelude.{◌≡◌, true, ◌≢◌, ◌<◌, ◌^◌, ◌+◌, List, IfOk, length};
-ghost use Rattle.host_base.specs.Answers.{Gives};
+ghost use Rattle.file_tree.specs.host_base.Answers.{Gives};
 ghost use Rattle.file_tree.specs.Trees.{is_directory, is_directory_kind};
 ghost use Rattle.file_tree.specs.declared.node.Node.{Node as the_node};
 ghost use Rattle.file_tree.specs.declared.link.Link.{Link as the_link};
@@ -16,10 +16,8 @@ use crate::plain::Plain;
 use crate::reading::{bytes_read, read_refusal};
 use crate::reply::Reply;
 use crate::script::Op;
-use file_tree::{Kind, Node, ROOT, Tree};
-use host_base::Memory;
+use file_tree::{Kind, Memory, Node, ROOT, Tree, Units, check};
 use std::alloc::{AllocError, Global};
-use utf16_name::{Units, check};
 
 impl From<AllocError> for Reply {
     ghost use Rattle.std.specs.Prelude.{◌≡◌};

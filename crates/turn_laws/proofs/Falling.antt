@@ -7,11 +7,11 @@ use Rattle.disk_model.specs.declared.block.Body.{Body}
 use Rattle.disk_model.specs.Sectors.{same_block, are_rivals}
 use Rattle.flush_policy.specs.declared.facts.StoreStep.{StoreStep}
 use Rattle.flush_policy.specs.declared.facts.StoreStep.TheVariants.{SealPage, WritePage, SyncDevice, WriteOut, BeginCheckpoint, WriteRestart}
-use Rattle.device_blocks.specs.declared.word.CheckWord.{CheckWord}
-use Rattle.device_blocks.specs.declared.word.CheckWord.TheVariants.{Unread, Missing, Stands, Sent}
-use Rattle.txn_model.specs.declared.mark.Mark.{Mark}
-use Rattle.txn_model.specs.Values.{StoreFacts}
-use Rattle.txn_model.specs.Calls.{sealed_facts, noted_facts, is_buried, synced_facts, written_out_facts, sent_out_facts, again_facts}
+use Rattle.txn_core.specs.device_blocks.declared.word.CheckWord.{CheckWord}
+use Rattle.txn_core.specs.device_blocks.declared.word.CheckWord.TheVariants.{Unread, Missing, Stands, Sent}
+use Rattle.txn_core.specs.txn_model.declared.mark.Mark.{Mark}
+use Rattle.txn_core.specs.txn_model.Values.{StoreFacts}
+use Rattle.txn_core.specs.txn_model.Calls.{sealed_facts, noted_facts, is_buried, synced_facts, written_out_facts, sent_out_facts, again_facts}
 use Rattle.txn_core.specs.Calls.{page_facts, is_spelled, out_facts}
 use Rattle.txn_core.specs.Steps.{HasTurned}
 use Rattle.txn_core.specs.Turns.{restart_facts}

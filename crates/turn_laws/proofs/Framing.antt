@@ -22,34 +22,34 @@ use Rattle.sector_device.specs.WholeSectors.{length-sectors_of}
 use Rattle.sector_device.proofs.KeptCalls.{cases_within, outside}
 use Rattle.sector_device.proofs.SectorParts.{outside_stays}
 use Rattle.log_model.specs.Logs.{is_in_grid}
-use Rattle.log_page.specs.declared.places.LogPlace.{LogPlace}
-use Rattle.log_page.specs.PageSpellings.{page_front}
-use Rattle.log_page.specs.Restarts.{restart_spelling}
-use Rattle.log_page.proofs.Spelled.{length-restart_spelling}
-use Rattle.log_area.specs.Areas.{RingPageOf, page_sector as area_sector, restart_sector, held_page, made_page, sent_word}
-use Rattle.log_area.specs.Calls.{Sends, IsSent, SentOrAsked, IsSentOrNot}
-use Rattle.store_model.specs.Stores.{Store}
-use Rattle.store_model.specs.Volumes.{is_known, is_free}
-use Rattle.store_model.proofs.Told.{true≢false, apart_swap}
-use Rattle.store_model.proofs.Known.{grid_apart, own_content}
-use Rattle.ring_laws.specs.Numbers.{LogSession, place_of_page}
-use Rattle.ring_laws.specs.PageBytes.{page_sector}
-use Rattle.ring_laws.proofs.Numbering.{in_ring}
-use Rattle.ring_laws.proofs.RingFacts.{has_ring}
-use Rattle.ring_laws.proofs.SeenDisks.{not_own}
-use Rattle.area_laws.proofs.Calling.{held_here}
+use Rattle.txn_core.specs.log_page.declared.places.LogPlace.{LogPlace}
+use Rattle.txn_core.specs.log_page.PageSpellings.{page_front}
+use Rattle.txn_core.specs.log_page.Restarts.{restart_spelling}
+use Rattle.txn_core.proofs.log_page.Spelled.{length-restart_spelling}
+use Rattle.txn_core.specs.log_area.Areas.{RingPageOf, page_sector as area_sector, restart_sector, held_page, made_page, sent_word}
+use Rattle.txn_core.specs.log_area.Calls.{Sends, IsSent, SentOrAsked, IsSentOrNot}
+use Rattle.txn_core.specs.store_model.Stores.{Store}
+use Rattle.txn_core.specs.store_model.Volumes.{is_known, is_free}
+use Rattle.txn_core.proofs.store_model.Told.{true≢false, apart_swap}
+use Rattle.txn_core.proofs.store_model.Known.{grid_apart, own_content}
+use Rattle.txn_core.specs.ring_laws.Numbers.{LogSession, place_of_page}
+use Rattle.txn_core.specs.ring_laws.PageBytes.{page_sector}
+use Rattle.txn_core.proofs.ring_laws.Numbering.{in_ring}
+use Rattle.txn_core.proofs.ring_laws.RingFacts.{has_ring}
+use Rattle.txn_core.proofs.ring_laws.SeenDisks.{not_own}
+use Rattle.txn_core.proofs.area_laws.Calling.{held_here}
 use Rattle.flush_policy.specs.declared.facts.StoreStep.{StoreStep}
 use Rattle.flush_policy.specs.declared.facts.StoreStep.TheVariants.{SealPage, WritePage, SyncDevice, WriteOut, BeginCheckpoint, WriteRestart}
-use Rattle.device_blocks.specs.declared.word.CheckWord.{CheckWord}
-use Rattle.device_blocks.specs.declared.word.CheckWord.TheVariants.{Unread, Missing, Stands, Sent}
-use Rattle.device_blocks.specs.Calls.{PutOrAsked, IsPutAgain}
-use Rattle.txn_model.specs.declared.mark.Mark.{Mark}
-use Rattle.txn_model.specs.Values.{StoreFacts, is_own}
-use Rattle.txn_model.specs.Calls.{is_ready}
-use Rattle.txn_laws.specs.Standing.{StandsBehind, session_of}
-use Rattle.txn_laws.proofs.PageWrites.{page_is_own}
-use Rattle.txn_laws.proofs.WriteOuts.{spelled_length}
-use Rattle.txn_state.specs.States.{IsStore, HasSize}
+use Rattle.txn_core.specs.device_blocks.declared.word.CheckWord.{CheckWord}
+use Rattle.txn_core.specs.device_blocks.declared.word.CheckWord.TheVariants.{Unread, Missing, Stands, Sent}
+use Rattle.txn_core.specs.device_blocks.Calls.{PutOrAsked, IsPutAgain}
+use Rattle.txn_core.specs.txn_model.declared.mark.Mark.{Mark}
+use Rattle.txn_core.specs.txn_model.Values.{StoreFacts, is_own}
+use Rattle.txn_core.specs.txn_model.Calls.{is_ready}
+use Rattle.txn_core.specs.txn_laws.Standing.{StandsBehind, session_of}
+use Rattle.txn_core.proofs.txn_laws.PageWrites.{page_is_own}
+use Rattle.txn_core.proofs.txn_laws.WriteOuts.{spelled_length}
+use Rattle.txn_core.specs.txn_state.States.{IsStore, HasSize}
 use Rattle.txn_core.specs.Calls.{is_spelled, WritesOut}
 use Rattle.txn_core.specs.Seen.{word_of}
 use Rattle.txn_core.specs.Steps.{MayTurn, TurnsDevice}

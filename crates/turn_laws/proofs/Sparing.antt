@@ -9,16 +9,16 @@ use Rattle.disk_model.specs.Sectors.{sector_of, are_rivals}
 use Rattle.disk_model.specs.Content.{content_of}
 use Rattle.sector_device.specs.Disks.{Disk, SeesDisk}
 use Rattle.sector_device.specs.Moments.{Changes}
-use Rattle.log_page.specs.declared.places.LogPlace.{LogPlace}
-use Rattle.store_model.specs.Volumes.{is_known}
-use Rattle.store_claims.specs.Windows.{StoreWindow}
-use Rattle.store_model.proofs.Told.{true≢false, rivals_both}
+use Rattle.txn_core.specs.log_page.declared.places.LogPlace.{LogPlace}
+use Rattle.txn_core.specs.store_model.Volumes.{is_known}
+use Rattle.txn_core.specs.store_claims.Windows.{StoreWindow}
+use Rattle.txn_core.proofs.store_model.Told.{true≢false, rivals_both}
 use Rattle.flush_policy.specs.declared.facts.StoreStep.{StoreStep}
 use Rattle.flush_policy.specs.declared.facts.StoreStep.TheVariants.{SealPage, WritePage, SyncDevice, WriteOut, BeginCheckpoint, WriteRestart}
-use Rattle.txn_model.specs.Values.{StoreFacts, is_own, own_of}
-use Rattle.txn_laws.specs.Windows.{HasWindow, IsShown}
-use Rattle.txn_laws.proofs.Showing.{present_shown}
-use Rattle.txn_state.specs.States.{facts_of, IsStore}
+use Rattle.txn_core.specs.txn_model.Values.{StoreFacts, is_own, own_of}
+use Rattle.txn_core.specs.txn_laws.Windows.{HasWindow, IsShown}
+use Rattle.txn_core.proofs.txn_laws.Showing.{present_shown}
+use Rattle.txn_core.specs.txn_state.States.{facts_of, IsStore}
 use Rattle.txn_core.specs.Seen.{Seen, TakesStep}
 use Rattle.txn_core.specs.Steps.{MayTurn, HasTurned, TurnsDevice, AfterTurn}
 use Rattle.txn_core.specs.Views.{present_on}

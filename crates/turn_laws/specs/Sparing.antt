@@ -5,12 +5,12 @@ use Rattle.disk_model.specs.declared.block.Block.{Block}
 use Rattle.disk_model.specs.declared.block.Body.{Body}
 use Rattle.disk_model.specs.Sectors.{are_rivals}
 use Rattle.sector_device.specs.Moments.{Changes}
-use Rattle.store_model.specs.Volumes.{is_known}
-use Rattle.store_claims.specs.Windows.{StoreWindow}
+use Rattle.txn_core.specs.store_model.Volumes.{is_known}
+use Rattle.txn_core.specs.store_claims.Windows.{StoreWindow}
 use Rattle.flush_policy.specs.declared.facts.StoreStep.{StoreStep}
-use Rattle.txn_model.specs.Values.{StoreFacts, is_own}
-use Rattle.txn_laws.specs.Windows.{HasWindow}
-use Rattle.txn_state.specs.States.{facts_of, IsStore}
+use Rattle.txn_core.specs.txn_model.Values.{StoreFacts, is_own}
+use Rattle.txn_core.specs.txn_laws.Windows.{HasWindow}
+use Rattle.txn_core.specs.txn_state.States.{facts_of, IsStore}
 use Rattle.txn_core.specs.Seen.{Seen, TakesStep}
 use Rattle.txn_core.specs.Steps.{MayTurn, HasTurned, TurnsDevice, AfterTurn}
 use Rattle.txn_core.specs.Views.{present_on}

@@ -7,3 +7,7 @@
 mod laws;
 
 pub use laws::steps_spare;
+pub use txn_core::{
+    ChangeFault, Store, StoreView, endings_tell, pages_are_enough, piece_room, steps_lead_on,
+    windows_tell,
+};

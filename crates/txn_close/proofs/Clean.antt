@@ -13,30 +13,30 @@ use Rattle.log_page.specs.Places.{sequence_bits}
 use Rattle.log_page.specs.declared.places.LogPlace.{LogPlace}
 use Rattle.log_page.specs.LiveLogs.{live_log}
 use Rattle.log_page.specs.Restarts.{restart_spelling}
-use Rattle.log_area.specs.declared.restart.SentRestart.{SentRestart}
-use Rattle.log_area.specs.Areas.{LogAreaOf, lap_at, number_of, restart_sector, sent_word, page_to_send, naming_page, named_area, synced_area}
-use Rattle.log_area.specs.Calls.{IsSent}
-use Rattle.log_area.proofs.Numbering.{lsn_room}
+use Rattle.found_stays.specs.log_area.declared.restart.SentRestart.{SentRestart}
+use Rattle.found_stays.specs.log_area.Areas.{LogAreaOf, lap_at, number_of, restart_sector, sent_word, page_to_send, naming_page, named_area, synced_area}
+use Rattle.found_stays.specs.log_area.Calls.{IsSent}
+use Rattle.found_stays.proofs.log_area.Numbering.{lsn_room}
 use Rattle.store_model.specs.Rings.{Ring, Restarts, entries_on, synced_places}
 use Rattle.store_model.specs.Stores.{Store}
 use Rattle.store_claims.specs.Windows.{StoreWindow}
-use Rattle.ring_laws.specs.Numbers.{LogSession, lsn_of_page}
-use Rattle.ring_laws.specs.PageBytes.{raw_page}
-use Rattle.ring_laws.specs.RestartPages.{restart_written, restart_synced}
-use Rattle.area_laws.specs.Standing.{Stands, freed_to}
-use Rattle.area_laws.specs.Laws.{MayName, RestartsStandAfter}
-use Rattle.area_laws.proofs.Joined.{syncs_all}
-use Rattle.area_laws.proofs.Naming.{restart_names}
-use Rattle.area_laws.proofs.Reading.{is_first, number_is, is_read}
-use Rattle.txn_model.specs.Values.{StoreFacts}
-use Rattle.txn_model.specs.Calls.{front_lsn, MayNameNoted, named_facts, synced_facts}
-use Rattle.txn_state.specs.States.{facts_of}
-use Rattle.txn_laws.specs.Standing.{StandsBehind, session_of}
-use Rattle.txn_laws.specs.Windows.{HasWindow}
-use Rattle.txn_laws.specs.Laws.{SendsNaming, SyncsNow}
-use Rattle.txn_laws.proofs.Naming.{front_is_oldest}
-use Rattle.txn_core.specs.Turns.{HasNext}
-use Rattle.txn_core.specs.Seen.{Seen}
+use Rattle.found_stays.specs.ring_laws.Numbers.{LogSession, lsn_of_page}
+use Rattle.found_stays.specs.ring_laws.PageBytes.{raw_page}
+use Rattle.found_stays.specs.ring_laws.RestartPages.{restart_written, restart_synced}
+use Rattle.found_stays.specs.area_laws.Standing.{Stands, freed_to}
+use Rattle.found_stays.specs.area_laws.Laws.{MayName, RestartsStandAfter}
+use Rattle.found_stays.proofs.area_laws.Joined.{syncs_all}
+use Rattle.found_stays.proofs.area_laws.Naming.{restart_names}
+use Rattle.found_stays.proofs.area_laws.Reading.{is_first, number_is, is_read}
+use Rattle.found_stays.specs.txn_model.Values.{StoreFacts}
+use Rattle.found_stays.specs.txn_model.Calls.{front_lsn, MayNameNoted, named_facts, synced_facts}
+use Rattle.found_stays.specs.txn_state.States.{facts_of}
+use Rattle.found_stays.specs.txn_laws.Standing.{StandsBehind, session_of}
+use Rattle.found_stays.specs.txn_laws.Windows.{HasWindow}
+use Rattle.found_stays.specs.txn_laws.Laws.{SendsNaming, SyncsNow}
+use Rattle.found_stays.proofs.txn_laws.Naming.{front_is_oldest}
+use Rattle.found_stays.specs.txn_core.Turns.{HasNext}
+use Rattle.found_stays.specs.txn_core.Seen.{Seen}
 use Rattle.txn_close.specs.declared.fault.CloseFault.{CloseFault}
 use Rattle.txn_close.specs.Rests.{IsDrained}
 use Rattle.txn_close.specs.Passing.{Goes}

@@ -3,26 +3,26 @@ use Rattle.std.proofs.Common.{◌≡◌, subst, ℕ, ◌+◌, ◌<◌, Bool, tru
 use Rattle.std.specs.Prelude.{◌==◌, ◌||◌}
 use Rattle.std.proofs.lemmas.Bool.Decides.{nat_tests}
 use Rattle.disk_model.specs.declared.block.Block.{Block}
-use Rattle.log_area.specs.Areas.{LogAreaOf, is_filling, next_lsn}
+use Rattle.found_stays.specs.log_area.Areas.{LogAreaOf, is_filling, next_lsn}
 use Rattle.flush_policy.specs.declared.facts.Facts.{Facts}
 use Rattle.flush_policy.specs.declared.facts.StoreStep.{StoreStep}
 use Rattle.flush_policy.specs.declared.facts.StoreStep.TheVariants.{SealPage, WritePage, SyncDevice, WriteOut, BeginCheckpoint, WriteRestart}
 use Rattle.flush_policy.specs.Choice.{step_of_ring, step_of_blocks, next_step}
 use Rattle.flush_policy.specs.Steps.{IsSynced, to_do}
 use Rattle.store_model.proofs.Told.{true≢false}
-use Rattle.txn_model.specs.Values.{StoreFacts}
-use Rattle.txn_model.specs.Told.{FactsTold, IsAllSynced, AreDirty, KeepsMarked, KeepsSteps, MayTakeStep}
-use Rattle.txn_state.specs.States.{StateOf, facts_of}
-use Rattle.txn_laws.proofs.Choosing.{next_may_be_taken}
-use Rattle.txn_laws.proofs.Counting.{told_can_be}
-use Rattle.device_blocks.specs.declared.word.CheckWord.{CheckWord}
-use Rattle.device_blocks.specs.declared.word.CheckWord.TheVariants.{Unread, Missing, Stands, Sent}
-use Rattle.txn_core.specs.Calls.{out_facts, is_spelled}
-use Rattle.txn_core.specs.Kept.{IsKept}
-use Rattle.txn_core.specs.Leading.{dirty_blocks}
-use Rattle.txn_core.specs.Steps.{MayTurn, HasTurned}
-use Rattle.txn_core.proofs.AfterCalls.{out_log}
-use Rattle.txn_core.proofs.Leading.{steps_lead_on}
+use Rattle.found_stays.specs.txn_model.Values.{StoreFacts}
+use Rattle.found_stays.specs.txn_model.Told.{FactsTold, IsAllSynced, AreDirty, KeepsMarked, KeepsSteps, MayTakeStep}
+use Rattle.found_stays.specs.txn_state.States.{StateOf, facts_of}
+use Rattle.found_stays.proofs.txn_laws.Choosing.{next_may_be_taken}
+use Rattle.found_stays.proofs.txn_laws.Counting.{told_can_be}
+use Rattle.found_stays.specs.device_blocks.declared.word.CheckWord.{CheckWord}
+use Rattle.found_stays.specs.device_blocks.declared.word.CheckWord.TheVariants.{Unread, Missing, Stands, Sent}
+use Rattle.found_stays.specs.txn_core.Calls.{out_facts, is_spelled}
+use Rattle.found_stays.specs.txn_core.Kept.{IsKept}
+use Rattle.found_stays.specs.txn_core.Leading.{dirty_blocks}
+use Rattle.found_stays.specs.txn_core.Steps.{MayTurn, HasTurned}
+use Rattle.found_stays.proofs.txn_core.AfterCalls.{out_log}
+use Rattle.found_stays.proofs.txn_core.Leading.{steps_lead_on}
 use Rattle.txn_close.specs.Rests.{draining, IsDrained}
 
 zero_is : (n : ℕ) → (n == 0) ≡ true → n ≡ 0

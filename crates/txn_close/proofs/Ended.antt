@@ -4,13 +4,13 @@ use Rattle.std.specs.Prelude.{IfSome, IfErr, OnOk, IsSome, unwrap_or, slice_inde
 use Rattle.std.proofs.lemmas.Bool.Decides.{nat_tests}
 use Rattle.std.proofs.lemmas.Nat.{div-add-mod'}
 use Rattle.log_page.specs.declared.places.LogPlace.{LogPlace}
-use Rattle.log_area.specs.Areas.{LogAreaOf, is_filling, ring_size, place_at, number_of, sealed_area}
-use Rattle.ring_laws.specs.Numbers.{LogSession}
-use Rattle.ring_laws.proofs.Numbering.{says_lap, says_page}
-use Rattle.txn_model.specs.declared.mark.Mark.{Mark}
-use Rattle.txn_model.specs.Values.{StoreFacts}
-use Rattle.txn_model.specs.Calls.{given_up_facts, sealed_facts, front_lsn, named_facts, noted_facts, synced_facts, synced_mark, noted_mark}
-use Rattle.txn_core.specs.Turns.{HasNext, MayRestart, IsLast}
+use Rattle.found_stays.specs.log_area.Areas.{LogAreaOf, is_filling, ring_size, place_at, number_of, sealed_area}
+use Rattle.found_stays.specs.ring_laws.Numbers.{LogSession}
+use Rattle.found_stays.proofs.ring_laws.Numbering.{says_lap, says_page}
+use Rattle.found_stays.specs.txn_model.declared.mark.Mark.{Mark}
+use Rattle.found_stays.specs.txn_model.Values.{StoreFacts}
+use Rattle.found_stays.specs.txn_model.Calls.{given_up_facts, sealed_facts, front_lsn, named_facts, noted_facts, synced_facts, synced_mark, noted_mark}
+use Rattle.found_stays.specs.txn_core.Turns.{HasNext, MayRestart, IsLast}
 use Rattle.txn_close.specs.declared.fault.CloseFault.{CloseFault}
 use Rattle.txn_close.specs.declared.fault.CloseFault.TheVariants.{Fault, Unmarked}
 use Rattle.txn_close.specs.Rests.{IsPlain, IsDrained, IsAtRest, IsUnmarked, stopped_facts}

@@ -7,11 +7,11 @@ use Rattle.log_page.specs.declared.places.LogPlace.{LogPlace}
 use Rattle.store_model.specs.Geometry.{SectorBytes}
 use Rattle.store_claims.specs.Windows.{StoreWindow}
 use Rattle.store_model.proofs.Told.{true≢false}
-use Rattle.txn_model.specs.Values.{StoreFacts, own_of, is_own}
-use Rattle.txn_state.specs.States.{facts_of}
-use Rattle.txn_laws.specs.Windows.{RecoversWithin, lap_behind, next_lap_in, LapsDuring, SimulatesAs}
-use Rattle.txn_laws.proofs.Telling.{window_ends}
-use Rattle.txn_core.specs.Seen.{Seen, TakesStepAs}
+use Rattle.found_stays.specs.txn_model.Values.{StoreFacts, own_of, is_own}
+use Rattle.found_stays.specs.txn_state.States.{facts_of}
+use Rattle.found_stays.specs.txn_laws.Windows.{RecoversWithin, lap_behind, next_lap_in, LapsDuring, SimulatesAs}
+use Rattle.found_stays.proofs.txn_laws.Telling.{window_ends}
+use Rattle.found_stays.specs.txn_core.Seen.{Seen, TakesStepAs}
 use Rattle.found_stays.specs.Found.{AreOffLog, StaysOver}
 use Rattle.found_stays.proofs.Bearing.{none_stays, both_stay}
 use Rattle.txn_close.specs.Passing.{IsSpared, Spares, LeavesWithin, LeavesFound, PassesAs, Fewer, GoesAs}

@@ -9,29 +9,29 @@ use Rattle.disk_model.specs.declared.block.Block.{Block}
 use Rattle.disk_model.specs.declared.block.Body.{Body}
 use Rattle.disk_model.specs.Sectors.{same_block, are_rivals}
 use Rattle.sector_device.specs.Moments.{moment_after, Changes, Syncs}
-use Rattle.log_area.specs.declared.restart.SentRestart.{SentRestart}
-use Rattle.log_area.specs.Areas.{LogAreaOf, ring_size, is_filling, fits, lap_at, next_number, sealed_area}
-use Rattle.log_area.specs.Calls.{sending_moment, IsSentOrNot}
+use Rattle.found_stays.specs.log_area.declared.restart.SentRestart.{SentRestart}
+use Rattle.found_stays.specs.log_area.Areas.{LogAreaOf, ring_size, is_filling, fits, lap_at, next_number, sealed_area}
+use Rattle.found_stays.specs.log_area.Calls.{sending_moment, IsSentOrNot}
 use Rattle.store_claims.specs.Windows.{StoreWindow}
 use Rattle.store_model.proofs.Told.{true≢false}
 use Rattle.flush_policy.specs.declared.facts.StoreStep.{StoreStep}
 use Rattle.flush_policy.specs.declared.facts.StoreStep.TheVariants.{SealPage, WritePage, SyncDevice, WriteOut, BeginCheckpoint, WriteRestart}
-use Rattle.txn_model.specs.declared.mark.Mark.{Mark}
-use Rattle.txn_model.specs.Values.{StoreFacts}
-use Rattle.txn_model.specs.Calls.{is_ready, is_buried}
-use Rattle.txn_laws.specs.Windows.{lap_behind, AfterWrite, MovesTo}
-use Rattle.txn_laws.proofs.PageWrites.{sends_later}
-use Rattle.device_blocks.specs.declared.word.CheckWord.{CheckWord}
-use Rattle.device_blocks.specs.declared.word.CheckWord.TheVariants.{Unread, Missing, Stands, Sent}
-use Rattle.device_blocks.specs.Words.{known_word}
-use Rattle.device_blocks.specs.Calls.{IsPutOrNot, IsPutAgainOrNot}
-use Rattle.txn_core.specs.Calls.{out_facts, is_spelled, AfterSync, sync_facts, WritesOut}
-use Rattle.txn_core.specs.Steps.{MayTurn, HasTurned, TurnsDevice, AfterTurn}
-use Rattle.txn_core.proofs.Outs.{ready_dirty}
-use Rattle.txn_state.specs.States.{facts_of}
-use Rattle.txn_laws.specs.Windows.{AfterGiveUp}
-use Rattle.txn_core.specs.Seen.{Seen, TakesStepAs, TakesStep}
-use Rattle.txn_core.specs.Turns.{restart_facts, SendsRestartPage}
+use Rattle.found_stays.specs.txn_model.declared.mark.Mark.{Mark}
+use Rattle.found_stays.specs.txn_model.Values.{StoreFacts}
+use Rattle.found_stays.specs.txn_model.Calls.{is_ready, is_buried}
+use Rattle.found_stays.specs.txn_laws.Windows.{lap_behind, AfterWrite, MovesTo}
+use Rattle.found_stays.proofs.txn_laws.PageWrites.{sends_later}
+use Rattle.found_stays.specs.device_blocks.declared.word.CheckWord.{CheckWord}
+use Rattle.found_stays.specs.device_blocks.declared.word.CheckWord.TheVariants.{Unread, Missing, Stands, Sent}
+use Rattle.found_stays.specs.device_blocks.Words.{known_word}
+use Rattle.found_stays.specs.device_blocks.Calls.{IsPutOrNot, IsPutAgainOrNot}
+use Rattle.found_stays.specs.txn_core.Calls.{out_facts, is_spelled, AfterSync, sync_facts, WritesOut}
+use Rattle.found_stays.specs.txn_core.Steps.{MayTurn, HasTurned, TurnsDevice, AfterTurn}
+use Rattle.found_stays.proofs.txn_core.Outs.{ready_dirty}
+use Rattle.found_stays.specs.txn_state.States.{facts_of}
+use Rattle.found_stays.specs.txn_laws.Windows.{AfterGiveUp}
+use Rattle.found_stays.specs.txn_core.Seen.{Seen, TakesStepAs, TakesStep}
+use Rattle.found_stays.specs.txn_core.Turns.{restart_facts, SendsRestartPage}
 use Rattle.txn_close.specs.Passing.{IsSpared, Spares, Fewer, GoesAs, Goes}
 use Rattle.found_stays.proofs.Bearing.{none_stays}
 use Rattle.found_stays.proofs.Writing.{sync_stays}

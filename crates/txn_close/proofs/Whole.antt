@@ -14,12 +14,12 @@ use Rattle.log_page.specs.LiveLogs.{live_log}
 use Rattle.store_model.specs.Geometry.{SectorBytes}
 use Rattle.store_model.specs.Volumes.{IsRecovered}
 use Rattle.store_claims.specs.Windows.{StoreWindow}
-use Rattle.ring_laws.specs.PageBytes.{raw_page}
-use Rattle.txn_model.specs.Values.{StoreFacts, own_of}
-use Rattle.txn_state.specs.States.{facts_of}
-use Rattle.txn_laws.specs.Windows.{RecoversWithin}
-use Rattle.txn_laws.proofs.Telling.{at_return, waits}
-use Rattle.txn_core.specs.Seen.{Seen}
+use Rattle.found_stays.specs.ring_laws.PageBytes.{raw_page}
+use Rattle.found_stays.specs.txn_model.Values.{StoreFacts, own_of}
+use Rattle.found_stays.specs.txn_state.States.{facts_of}
+use Rattle.found_stays.specs.txn_laws.Windows.{RecoversWithin}
+use Rattle.found_stays.proofs.txn_laws.Telling.{at_return, waits}
+use Rattle.found_stays.specs.txn_core.Seen.{Seen}
 use Rattle.txn_close.specs.declared.fault.CloseFault.{CloseFault}
 use Rattle.txn_close.specs.Rests.{IsAtRest}
 use Rattle.txn_close.specs.Passing.{Spares, GoesToEnd}

@@ -11,18 +11,18 @@ use Rattle.log_page.specs.declared.restart.Restart.{Restart}
 use Rattle.log_page.specs.LiveLogs.{live_log}
 use Rattle.log_page.specs.Restarts.{restart_spelling}
 use Rattle.log_reading.specs.Fronts.{chosen_in}
-use Rattle.log_area.specs.Areas.{LogAreaOf, restart_sector, naming_page, named_area, synced_area}
-use Rattle.log_area.specs.Calls.{IsSent}
+use Rattle.found_stays.specs.log_area.Areas.{LogAreaOf, restart_sector, naming_page, named_area, synced_area}
+use Rattle.found_stays.specs.log_area.Calls.{IsSent}
 use Rattle.store_model.specs.Geometry.{SectorBytes}
 use Rattle.store_model.specs.Volumes.{is_known, IsRecovered}
 use Rattle.store_claims.specs.Windows.{StoreWindow}
-use Rattle.ring_laws.specs.PageBytes.{raw_page}
-use Rattle.txn_model.specs.Values.{StoreFacts, own_of}
-use Rattle.txn_model.specs.Calls.{front_lsn}
-use Rattle.txn_state.specs.States.{facts_of}
-use Rattle.txn_laws.specs.Windows.{HasWindow}
-use Rattle.txn_laws.specs.Laws.{SendsNaming, SyncsNow}
-use Rattle.txn_core.specs.Seen.{Seen}
+use Rattle.found_stays.specs.ring_laws.PageBytes.{raw_page}
+use Rattle.found_stays.specs.txn_model.Values.{StoreFacts, own_of}
+use Rattle.found_stays.specs.txn_model.Calls.{front_lsn}
+use Rattle.found_stays.specs.txn_state.States.{facts_of}
+use Rattle.found_stays.specs.txn_laws.Windows.{HasWindow}
+use Rattle.found_stays.specs.txn_laws.Laws.{SendsNaming, SyncsNow}
+use Rattle.found_stays.specs.txn_core.Seen.{Seen}
 use Rattle.txn_close.specs.declared.fault.CloseFault.{CloseFault}
 use Rattle.txn_close.specs.declared.fault.CloseFault.TheVariants.{Fault, Unmarked}
 use Rattle.txn_close.specs.Rests.{IsAtRest, IsUnmarked, stopped_facts}

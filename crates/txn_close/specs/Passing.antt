@@ -7,10 +7,10 @@ use Rattle.sector_device.specs.Moments.{Changes, LeftSince}
 use Rattle.store_model.specs.Geometry.{SectorBytes}
 use Rattle.store_claims.specs.Moves.{Keeps}
 use Rattle.store_claims.specs.Windows.{StoreWindow}
-use Rattle.txn_model.specs.Values.{StoreFacts, own_of}
-use Rattle.txn_state.specs.States.{facts_of}
-use Rattle.txn_laws.specs.Windows.{HasWindowAs, RecoversWithin, lap_behind, LapsDuring}
-use Rattle.txn_core.specs.Seen.{Seen}
+use Rattle.found_stays.specs.txn_model.Values.{StoreFacts, own_of}
+use Rattle.found_stays.specs.txn_state.States.{facts_of}
+use Rattle.found_stays.specs.txn_laws.Windows.{HasWindowAs, RecoversWithin, lap_behind, LapsDuring}
+use Rattle.found_stays.specs.txn_core.Seen.{Seen}
 use Rattle.found_stays.specs.Found.{AreOffLog, StaysOver}
 
 -- The block isn't dead, and no rival of it is dirty: so neither a sync nor the write-out of a rival drops its body.

@@ -1,13 +1,13 @@
 -- What a store is once nothing is left to write.
 use Rattle.std.specs.Prelude.{◌≡◌, ◌≤◌, Bool, true, false, if◌then◌else◌, Option, Some, None, IfSome}
 use Rattle.disk_model.specs.declared.block.Block.{Block}
-use Rattle.log_area.specs.Areas.{is_filling, used_pages}
+use Rattle.found_stays.specs.log_area.Areas.{is_filling, used_pages}
 use Rattle.flush_policy.specs.declared.facts.StoreStep.{StoreStep}
 use Rattle.flush_policy.specs.declared.facts.StoreStep.TheVariants.{BeginCheckpoint, WriteRestart}
-use Rattle.txn_model.specs.declared.mark.Mark.{Mark}
-use Rattle.txn_model.specs.Values.{StoreFacts}
-use Rattle.txn_model.specs.Calls.{given_up_facts}
-use Rattle.txn_core.specs.Turns.{HasNext}
+use Rattle.found_stays.specs.txn_model.declared.mark.Mark.{Mark}
+use Rattle.found_stays.specs.txn_model.Values.{StoreFacts}
+use Rattle.found_stays.specs.txn_model.Calls.{given_up_facts}
+use Rattle.found_stays.specs.txn_core.Turns.{HasNext}
 
 -- the step neither begins nor ends a checkpoint
 abbrev pub drains : StoreStep → Bool

@@ -1,8 +1,8 @@
 //! A store is closed.
 ghost use Rattle.std.specs.Prelude.{◌≡◌, OnOk, IfErr, None};
 ghost use Rattle.device_view.specs.Devices.{CountsOnDevice};
-ghost use Rattle.txn_model.specs.Calls.{sealed_facts};
-ghost use Rattle.txn_state.specs.States.{facts_of};
+ghost use Rattle.found_stays.specs.txn_model.Calls.{sealed_facts};
+ghost use Rattle.found_stays.specs.txn_state.States.{facts_of};
 ghost use Rattle.txn_close.specs.declared.fault.CloseFault.TheVariants.{Unmarked};
 ghost use Rattle.txn_close.specs.Rests.{stopped_facts, IsDrained, IsUnmarked};
 ghost use Rattle.txn_close.specs.Passing.{Goes};
@@ -11,8 +11,8 @@ ghost use Rattle.txn_close.specs.Ends.{close_cause, Closes};
 use crate::draining::drain;
 use crate::ending::{end_begun, mark_clean};
 use crate::fault::CloseFault;
+use found_stays::Store;
 use sector_device::Device;
-use txn_core::Store;
 
 // Gives up the transaction that is open, if any.
 fn give_up_open<D: Device>(store: &mut Store<D>)

@@ -2,15 +2,15 @@
 ghost use Rattle.std.specs.Prelude.{◌≡◌, OnOk, false};
 ghost use Rattle.host_base.specs.Causes.{FailsByCause};
 ghost use Rattle.flush_policy.specs.Choice.{next_step};
-ghost use Rattle.log_area.specs.Areas.{is_filling};
-ghost use Rattle.txn_state.specs.States.{facts_of};
+ghost use Rattle.found_stays.specs.log_area.Areas.{is_filling};
+ghost use Rattle.found_stays.specs.txn_state.States.{facts_of};
 ghost use Rattle.txn_close.specs.Rests.{drains, draining, IsDrained};
 ghost use Rattle.txn_close.specs.Passing.{Goes};
 
 use flush_policy::{Facts, StoreStep, next_step};
+use found_stays::Store;
 use host_base::Failed;
 use sector_device::Device;
-use txn_core::Store;
 
 // Whether a step neither begins nor ends a checkpoint.
 fn drains(step: StoreStep) -> bool

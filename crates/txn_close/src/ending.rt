@@ -1,17 +1,17 @@
 //! A log is marked clean.
 ghost use Rattle.std.specs.Prelude.{◌≡◌, ◌↔◌, OnOk, IfErr, IsSome, true, None, unwrap_or};
 ghost use Rattle.device_view.specs.Devices.{CountsOnDevice};
-ghost use Rattle.txn_model.specs.Calls.{named_facts, synced_facts};
-ghost use Rattle.txn_state.specs.States.{facts_of};
-ghost use Rattle.txn_core.specs.Turns.{HasNext, IsLast};
+ghost use Rattle.found_stays.specs.txn_model.Calls.{named_facts, synced_facts};
+ghost use Rattle.found_stays.specs.txn_state.States.{facts_of};
+ghost use Rattle.found_stays.specs.txn_core.Turns.{HasNext, IsLast};
 ghost use Rattle.txn_close.specs.declared.fault.CloseFault.TheVariants.{Fault, Unmarked};
 ghost use Rattle.txn_close.specs.Rests.{IsDrained, IsUnmarked};
 ghost use Rattle.txn_close.specs.Passing.{Goes, EndsFurther};
 ghost use Rattle.txn_close.specs.Ends.{close_cause, EndsBy, MarksClean};
 
 use crate::fault::CloseFault;
+use found_stays::{Closing, Store};
 use sector_device::Device;
-use txn_core::{Closing, Store};
 
 /// Whether a restart page can be made: the log has a lap for a further entry, and its count of
 /// opens isn't at its end. In constant time.

@@ -2,17 +2,17 @@
 use Rattle.std.proofs.Common.{◌≡◌, subst, ℕ, ◌<◌, Bool, true, false, List, Option, Result, Ok, Err, refl, sym, Some}
 use Rattle.std.specs.Prelude.{IfOk, is_ok, is_some, unwrap_or}
 use Rattle.host_base.specs.declared.outside.Failed.{Failed}
-use Rattle.disk_model.specs.declared.block.Block.{Block}
-use Rattle.log_model.specs.Logs.{is_in_grid}
-use Rattle.log_area.specs.declared.restart.SentRestart.{SentRestart}
-use Rattle.log_area.specs.Areas.{number_of, IsOldest}
-use Rattle.block_view.specs.declared.fault.ViewFault.{ViewFault}
+use Rattle.device_blocks.specs.disk_model.declared.block.Block.{Block}
+use Rattle.txn_laws.specs.log_model.Logs.{is_in_grid}
+use Rattle.device_blocks.specs.log_area.declared.restart.SentRestart.{SentRestart}
+use Rattle.device_blocks.specs.log_area.Areas.{number_of, IsOldest}
+use Rattle.txn_laws.specs.block_view.declared.fault.ViewFault.{ViewFault}
 use Rattle.txn_core.specs.declared.fault.ChangeFault.{ChangeFault}
 use Rattle.device_blocks.specs.declared.word.CheckWord.{CheckWord}
 use Rattle.device_blocks.specs.declared.word.CheckWord.TheVariants.{Unread, Missing, Stands, Sent}
-use Rattle.store_pools.specs.Pools.{body_of_kept}
-use Rattle.txn_model.specs.Values.{StoreFacts}
-use Rattle.txn_model.specs.Calls.{change_acts, changed_facts, given_up_facts, front_lsn, is_ready}
+use Rattle.txn_state.specs.store_pools.Pools.{body_of_kept}
+use Rattle.txn_laws.specs.txn_model.Values.{StoreFacts}
+use Rattle.txn_laws.specs.txn_model.Calls.{change_acts, changed_facts, given_up_facts, front_lsn, is_ready}
 use Rattle.txn_state.specs.States.{IsStore, HasSize}
 use Rattle.txn_core.specs.declared.changing.Present.{Present}
 use Rattle.txn_core.specs.declared.telling.Telling.{Telling}

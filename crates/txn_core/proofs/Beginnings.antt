@@ -1,12 +1,12 @@
 -- A store begins on a device.
 use Rattle.std.proofs.Common.{◌≡◌, subst, Bool, true, false, Some, sym, ap, ◌∙◌}
 use Rattle.std.specs.Prelude.{is_some}
-use Rattle.disk_model.specs.declared.block.Block.{Block}
-use Rattle.disk_model.specs.Content.{content_of}
-use Rattle.sector_device.specs.Disks.{Disk, seen}
-use Rattle.sector_device.specs.Moments.{Changes}
-use Rattle.txn_model.specs.Values.{StoreFacts}
-use Rattle.txn_model.specs.Calls.{first_facts}
+use Rattle.device_blocks.specs.disk_model.declared.block.Block.{Block}
+use Rattle.device_blocks.specs.disk_model.Content.{content_of}
+use Rattle.txn_laws.specs.sector_device.Disks.{Disk, seen}
+use Rattle.txn_laws.specs.sector_device.Moments.{Changes}
+use Rattle.txn_laws.specs.txn_model.Values.{StoreFacts}
+use Rattle.txn_laws.specs.txn_model.Calls.{first_facts}
 use Rattle.txn_state.specs.States.{StateOf, facts_of}
 use Rattle.txn_laws.specs.Windows.{HasMachine, HasStart}
 use Rattle.txn_laws.proofs.Telling.{machine_of}

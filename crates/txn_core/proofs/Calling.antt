@@ -2,16 +2,16 @@
 use Rattle.std.proofs.Common.{◌≡◌, subst, ℕ, ◌<◌, Bool, true, false, List, Option, Some, None, Result, Ok, Err, refl, sym, ap}
 use Rattle.std.specs.Prelude.{IfSome}
 use Rattle.host_base.specs.declared.outside.Failed.{Failed}
-use Rattle.fixup_record.specs.Protecting.{protected_bytes}
-use Rattle.sector_device.specs.Disks.{IsSized, SeesDisk}
-use Rattle.sector_device.specs.Moments.{Changes, Syncs}
-use Rattle.log_area.specs.Areas.{page_sector, held_page, made_page}
-use Rattle.log_area.specs.Calls.{IsAsked, SentOrAsked, IsSentOrNot}
-use Rattle.txn_model.specs.Values.{StoreFacts}
-use Rattle.log_model.specs.declared.entry.Act.TheVariants.{Commit}
-use Rattle.txn_model.specs.Pieces.{next_entry}
-use Rattle.txn_model.specs.Appending.{MayAppend}
-use Rattle.txn_model.specs.Calls.{begun_facts, committed_facts, given_up_facts, sealed_facts}
+use Rattle.device_blocks.specs.fixup_record.Protecting.{protected_bytes}
+use Rattle.txn_laws.specs.sector_device.Disks.{IsSized, SeesDisk}
+use Rattle.txn_laws.specs.sector_device.Moments.{Changes, Syncs}
+use Rattle.device_blocks.specs.log_area.Areas.{page_sector, held_page, made_page}
+use Rattle.device_blocks.specs.log_area.Calls.{IsAsked, SentOrAsked, IsSentOrNot}
+use Rattle.txn_laws.specs.txn_model.Values.{StoreFacts}
+use Rattle.txn_laws.specs.log_model.declared.entry.Act.TheVariants.{Commit}
+use Rattle.txn_laws.specs.txn_model.Pieces.{next_entry}
+use Rattle.txn_laws.specs.txn_model.Appending.{MayAppend}
+use Rattle.txn_laws.specs.txn_model.Calls.{begun_facts, committed_facts, given_up_facts, sealed_facts}
 use Rattle.txn_laws.specs.Windows.{SimulatesAs, Simulates, AfterBegin, AfterCommit, AfterGiveUp, AfterWrite}
 use Rattle.txn_laws.proofs.Telling.{in_memory, by_read, sync_fails}
 use Rattle.txn_laws.proofs.Memory.{begins, seals_page, gives_up}

@@ -1,28 +1,28 @@
 -- What a change of a block does to a store's window, and what it leaves as it always is.
 use Rattle.std.proofs.Common.{◌≡◌, ◌⊎◌, subst, ℕ, Bool, true, false, cond, List, Option, Some, None, Result, Ok, Err, refl, sym, ap, ◌∙◌, inl, inr}
 use Rattle.std.specs.Prelude.{IfSome, IfOk, IfErr, OnOk, is_some}
-use Rattle.disk_model.specs.declared.block.Block.{Block}
-use Rattle.disk_model.specs.declared.block.Body.{Body}
-use Rattle.disk_model.specs.Sectors.{same_block}
-use Rattle.disk_model.specs.Bytes.{written}
-use Rattle.fixup_record.specs.Spellings.{has_spelling}
-use Rattle.sector_device.specs.Disks.{SeesDisk}
-use Rattle.sector_device.specs.Moments.{Changes}
-use Rattle.log_model.specs.Logs.{is_in_grid}
-use Rattle.store_model.specs.Volumes.{is_free}
-use Rattle.block_view.specs.declared.fault.ViewFault.{ViewFault}
-use Rattle.block_view.specs.declared.fault.ViewFault.TheVariants.{Fault as ViewFailed, Memory as ViewMemory}
+use Rattle.device_blocks.specs.disk_model.declared.block.Block.{Block}
+use Rattle.device_blocks.specs.disk_model.declared.block.Body.{Body}
+use Rattle.device_blocks.specs.disk_model.Sectors.{same_block}
+use Rattle.device_blocks.specs.disk_model.Bytes.{written}
+use Rattle.device_blocks.specs.fixup_record.Spellings.{has_spelling}
+use Rattle.txn_laws.specs.sector_device.Disks.{SeesDisk}
+use Rattle.txn_laws.specs.sector_device.Moments.{Changes}
+use Rattle.txn_laws.specs.log_model.Logs.{is_in_grid}
+use Rattle.txn_laws.specs.store_model.Volumes.{is_free}
+use Rattle.txn_laws.specs.block_view.declared.fault.ViewFault.{ViewFault}
+use Rattle.txn_laws.specs.block_view.declared.fault.ViewFault.TheVariants.{Fault as ViewFailed, Memory as ViewMemory}
 use Rattle.txn_core.specs.declared.fault.ChangeFault.{ChangeFault}
 use Rattle.txn_core.specs.declared.fault.ChangeFault.TheVariants.{Fault, Memory, Unspelled}
-use Rattle.block_pool.specs.Pools.{held, with_block}
-use Rattle.store_pools.specs.Pools.{body_of_kept}
-use Rattle.txn_model.specs.Values.{StoreFacts, own_of}
-use Rattle.txn_model.specs.Calls.{changed_facts, given_up_facts}
+use Rattle.txn_laws.specs.block_pool.Pools.{held, with_block}
+use Rattle.txn_state.specs.store_pools.Pools.{body_of_kept}
+use Rattle.txn_laws.specs.txn_model.Values.{StoreFacts, own_of}
+use Rattle.txn_laws.specs.txn_model.Calls.{changed_facts, given_up_facts}
 use Rattle.txn_state.specs.States.{HasSize, IsStore, MayChange}
 use Rattle.txn_laws.specs.Windows.{Simulates, AfterChange}
 use Rattle.txn_laws.proofs.Changes.{changes_in_memory}
 use Rattle.txn_laws.proofs.Syncs.{and_left}
-use Rattle.device_view.specs.Devices.{CountsCauseOnDevice, CountsOnDevice}
+use Rattle.device_blocks.specs.device_view.Devices.{CountsCauseOnDevice, CountsOnDevice}
 use Rattle.device_blocks.specs.declared.word.CheckWord.{CheckWord}
 use Rattle.device_blocks.specs.Words.{IsToldOf, changed_word, IsFitWord}
 use Rattle.txn_core.specs.declared.changing.Present.{Present}

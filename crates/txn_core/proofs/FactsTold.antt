@@ -1,13 +1,13 @@
 -- What a store tells of itself.
 use Rattle.std.proofs.Common.{◌≡◌, subst, ◌-◌, Bool, true, false, not, Option, Some, refl, sym, ◌∙◌, arith}
 use Rattle.std.specs.Prelude.{◌&&◌, is_some}
-use Rattle.disk_model.specs.declared.block.Block.{Block}
-use Rattle.log_area.specs.Areas.{is_filling, used_pages, ring_size, next_lsn}
-use Rattle.store_model.proofs.Told.{true≢false}
-use Rattle.flush_policy.specs.declared.facts.Facts.{Facts}
-use Rattle.txn_model.specs.Values.{StoreFacts}
-use Rattle.txn_model.specs.Calls.{is_ready}
-use Rattle.txn_model.specs.Told.{FactsTold, IsAllSynced, is_fresh}
+use Rattle.device_blocks.specs.disk_model.declared.block.Block.{Block}
+use Rattle.device_blocks.specs.log_area.Areas.{is_filling, used_pages, ring_size, next_lsn}
+use Rattle.txn_laws.proofs.store_model.Told.{true≢false}
+use Rattle.txn_laws.specs.flush_policy.declared.facts.Facts.{Facts}
+use Rattle.txn_laws.specs.txn_model.Values.{StoreFacts}
+use Rattle.txn_laws.specs.txn_model.Calls.{is_ready}
+use Rattle.txn_laws.specs.txn_model.Told.{FactsTold, IsAllSynced, is_fresh}
 use Rattle.txn_core.specs.declared.telling.Telling.{Telling}
 use Rattle.txn_core.specs.Tells.{IsLowest, IsTold, IsAllDone}
 

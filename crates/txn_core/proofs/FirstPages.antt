@@ -2,16 +2,16 @@
 use Rattle.std.proofs.Common.{◌≡◌, subst, ℕ, ◌+◌, ◌-◌, ◌*◌, ◌/◌, ◌%◌, ◌^◌, ◌<◌, ◌≤◌, false, List, Option, Ok, refl, sym, ap, ap₂, ◌∙◌, inl, arith}
 use Rattle.std.specs.Prelude.{IfSome}
 use native.Mathlib.Nat.{zero-div, zero-mod}
-use Rattle.sector_device.specs.Disks.{Disk, IsSized, SeesDisk}
-use Rattle.sector_device.specs.Moments.{Changes}
-use Rattle.log_page.specs.declared.places.LogPlace.{LogPlace}
-use Rattle.log_page.specs.Places.{lap_of, page_of, sequence_bits}
-use Rattle.log_reading.specs.Rings.{IsRingPlace}
-use Rattle.log_area.specs.Areas.{LogAreaOf, new_area, lap_at, next_number, next_lsn, number_of, IsOldest}
-use Rattle.ring_laws.specs.Numbers.{LogSession}
-use Rattle.ring_laws.proofs.Numbering.{says_lap, says_page, says_ring}
-use Rattle.ring_laws.proofs.RingFacts.{has_ring, log_small}
-use Rattle.area_laws.specs.Laws.{SendsRestart, MayName}
+use Rattle.txn_laws.specs.sector_device.Disks.{Disk, IsSized, SeesDisk}
+use Rattle.txn_laws.specs.sector_device.Moments.{Changes}
+use Rattle.txn_laws.specs.log_page.declared.places.LogPlace.{LogPlace}
+use Rattle.txn_laws.specs.log_page.Places.{lap_of, page_of, sequence_bits}
+use Rattle.txn_laws.specs.log_reading.Rings.{IsRingPlace}
+use Rattle.device_blocks.specs.log_area.Areas.{LogAreaOf, new_area, lap_at, next_number, next_lsn, number_of, IsOldest}
+use Rattle.txn_laws.specs.ring_laws.Numbers.{LogSession}
+use Rattle.txn_laws.proofs.ring_laws.Numbering.{says_lap, says_page, says_ring}
+use Rattle.txn_laws.proofs.ring_laws.RingFacts.{has_ring, log_small}
+use Rattle.txn_laws.specs.area_laws.Laws.{SendsRestart, MayName}
 use Rattle.txn_laws.specs.Laws.{first_lsn, opened_area}
 use Rattle.txn_laws.proofs.Openings.{opens_log}
 use Rattle.txn_laws.proofs.Telling.{known_before_write, known_before_sync}

@@ -3,14 +3,14 @@ use Rattle.std.proofs.Common.{◌≡◌, subst, ℕ, Bool, true, false, cond, Li
 use Rattle.std.specs.Prelude.{IfSome, OnOk, OnErr, is_some, ◌||◌}
 use Rattle.std.specs.Option.{option_or}
 use Rattle.host_base.specs.declared.outside.Failed.{Failed}
-use Rattle.disk_model.specs.declared.block.Block.{Block}
-use Rattle.disk_model.specs.declared.block.Body.{Body}
-use Rattle.sector_device.specs.Moments.{Changes}
-use Rattle.log_page.specs.declared.places.LogPlace.{LogPlace}
-use Rattle.store_claims.specs.Windows.{StoreWindow}
-use Rattle.block_pool.specs.Pools.{held}
-use Rattle.txn_model.specs.Values.{StoreFacts}
-use Rattle.txn_model.specs.Calls.{given_up_facts, is_buried, written_facts, synced_facts}
+use Rattle.device_blocks.specs.disk_model.declared.block.Block.{Block}
+use Rattle.device_blocks.specs.disk_model.declared.block.Body.{Body}
+use Rattle.txn_laws.specs.sector_device.Moments.{Changes}
+use Rattle.txn_laws.specs.log_page.declared.places.LogPlace.{LogPlace}
+use Rattle.txn_laws.specs.store_claims.Windows.{StoreWindow}
+use Rattle.txn_laws.specs.block_pool.Pools.{held}
+use Rattle.txn_laws.specs.txn_model.Values.{StoreFacts}
+use Rattle.txn_laws.specs.txn_model.Calls.{given_up_facts, is_buried, written_facts, synced_facts}
 use Rattle.txn_state.specs.States.{StateOf, facts_of, IsStore}
 use Rattle.txn_laws.specs.Windows.{HasMachineAs, SimulatesAs}
 use Rattle.txn_laws.proofs.Telling.{keeps, machine_ends}

@@ -5,16 +5,16 @@ use Rattle.std.proofs.Math.Nat.{mod-lt}
 use Rattle.std.proofs.Math.ListN.{length-set}
 use Rattle.std.proofs.lemmas.Bool.{cases_lt, lt-ltb, le-leb, leb-true}
 use Rattle.std.proofs.lemmas.List.{get_or-set_same, get_or-set_other}
-use Rattle.log_model.specs.declared.entry.Entry.{Entry}
-use Rattle.log_model.specs.declared.entry.Act.{Act}
-use Rattle.log_model.specs.declared.entry.Act.TheVariants.{Update, Commit}
-use Rattle.log_model.specs.Entries.{entry_size, act_size, FitsAct}
-use Rattle.log_page.specs.Places.{page_bytes, entries_at}
-use Rattle.log_page.proofs.Readings.{size_some}
-use Rattle.log_area.specs.declared.restart.SentRestart.{SentRestart}
-use Rattle.log_area.specs.Areas.{LogAreaOf, ring_size, place_at, is_filling, fits, used_pages, next_number, next_at, appended, sealed_area, written_area, synced_area, number_of, IsOldest, named_area}
-use Rattle.txn_model.specs.Pieces.{next_entry, log_with, ends_with}
-use Rattle.txn_model.specs.Appending.{MayAppend, MayAppendAll}
+use Rattle.txn_laws.specs.log_model.declared.entry.Entry.{Entry}
+use Rattle.txn_laws.specs.log_model.declared.entry.Act.{Act}
+use Rattle.txn_laws.specs.log_model.declared.entry.Act.TheVariants.{Update, Commit}
+use Rattle.txn_laws.specs.log_model.Entries.{entry_size, act_size, FitsAct}
+use Rattle.txn_laws.specs.log_page.Places.{page_bytes, entries_at}
+use Rattle.txn_laws.proofs.log_page.Readings.{size_some}
+use Rattle.device_blocks.specs.log_area.declared.restart.SentRestart.{SentRestart}
+use Rattle.device_blocks.specs.log_area.Areas.{LogAreaOf, ring_size, place_at, is_filling, fits, used_pages, next_number, next_at, appended, sealed_area, written_area, synced_area, number_of, IsOldest, named_area}
+use Rattle.txn_laws.specs.txn_model.Pieces.{next_entry, log_with, ends_with}
+use Rattle.txn_laws.specs.txn_model.Appending.{MayAppend, MayAppendAll}
 use Rattle.txn_core.specs.Kept.{KeepsOrder}
 
 -- the pages end before this one

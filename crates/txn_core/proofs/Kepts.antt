@@ -3,25 +3,25 @@ use Rattle.std.proofs.Common.{◌≡◌, subst, ℕ, zero, suc, ◌*◌, ◌%◌
 use Rattle.std.specs.Prelude.{◌||◌, ◌==◌, IfSome, is_some, slice_index, replicate}
 use Rattle.std.proofs.lemmas.Bool.{cases_Bool, cases_lt, eqb-true, eq-eqb}
 use Rattle.std.proofs.lemmas.List.{length-map}
-use Rattle.disk_model.specs.declared.block.Block.{Block}
-use Rattle.disk_model.specs.declared.block.Body.{Body}
-use Rattle.disk_model.specs.declared.block.BlockKind.{BlockKind}
-use Rattle.disk_model.specs.declared.block.BlockKind.TheVariants.{Plain, FileRec, Index}
-use Rattle.disk_model.specs.Bytes.{written}
-use Rattle.disk_model.specs.Sectors.{sectors, same_block, are_rivals}
-use Rattle.log_model.specs.declared.entry.Act.{Act}
-use Rattle.log_model.specs.declared.entry.Act.TheVariants.{Commit}
-use Rattle.log_page.specs.declared.places.LogPlace.{LogPlace}
-use Rattle.log_area.specs.declared.restart.SentRestart.{SentRestart}
-use Rattle.log_area.specs.Areas.{LogAreaOf, ring_size, place_at, is_filling, sealed_area, number_of, IsOldest, named_area}
-use Rattle.txn_model.specs.declared.mark.Mark.{Mark}
-use Rattle.txn_model.specs.Values.{StoreFacts}
-use Rattle.txn_model.specs.Pieces.{Piece, logged_pieces, update_of_piece, next_entry, log_with, ends_with}
-use Rattle.txn_model.specs.Appending.{MayAppend, MayAppendAll}
-use Rattle.txn_model.specs.Calls.{first_facts, begun_facts, body_before, change_acts, changed_facts, committed_facts, given_up_facts, sealed_facts, noted_facts, written_facts, synced_facts, written_out_facts, sent_out_facts, again_facts, is_noted}
-use Rattle.txn_model.specs.Told.{pages_end, KeepsMarked, KeepsSteps}
+use Rattle.device_blocks.specs.disk_model.declared.block.Block.{Block}
+use Rattle.device_blocks.specs.disk_model.declared.block.Body.{Body}
+use Rattle.device_blocks.specs.disk_model.declared.block.BlockKind.{BlockKind}
+use Rattle.device_blocks.specs.disk_model.declared.block.BlockKind.TheVariants.{Plain, FileRec, Index}
+use Rattle.device_blocks.specs.disk_model.Bytes.{written}
+use Rattle.device_blocks.specs.disk_model.Sectors.{sectors, same_block, are_rivals}
+use Rattle.txn_laws.specs.log_model.declared.entry.Act.{Act}
+use Rattle.txn_laws.specs.log_model.declared.entry.Act.TheVariants.{Commit}
+use Rattle.txn_laws.specs.log_page.declared.places.LogPlace.{LogPlace}
+use Rattle.device_blocks.specs.log_area.declared.restart.SentRestart.{SentRestart}
+use Rattle.device_blocks.specs.log_area.Areas.{LogAreaOf, ring_size, place_at, is_filling, sealed_area, number_of, IsOldest, named_area}
+use Rattle.txn_laws.specs.txn_model.declared.mark.Mark.{Mark}
+use Rattle.txn_laws.specs.txn_model.Values.{StoreFacts}
+use Rattle.txn_laws.specs.txn_model.Pieces.{Piece, logged_pieces, update_of_piece, next_entry, log_with, ends_with}
+use Rattle.txn_laws.specs.txn_model.Appending.{MayAppend, MayAppendAll}
+use Rattle.txn_laws.specs.txn_model.Calls.{first_facts, begun_facts, body_before, change_acts, changed_facts, committed_facts, given_up_facts, sealed_facts, noted_facts, written_facts, synced_facts, written_out_facts, sent_out_facts, again_facts, is_noted}
+use Rattle.txn_laws.specs.txn_model.Told.{pages_end, KeepsMarked, KeepsSteps}
 use Rattle.txn_state.specs.States.{IsStore}
-use Rattle.store_model.proofs.Told.{true≢false}
+use Rattle.txn_laws.proofs.store_model.Told.{true≢false}
 use Rattle.txn_core.specs.Kept.{KeepsOrder, KeepsMark, KeepsCommits, IsKept, IsBegun}
 use Rattle.txn_core.proofs.KeptMarks.{raised, clean_keeps, changed_by, committed_by, given_up_by, noted_keeps, synced_keeps, written_by, sent_by, again_by}
 use Rattle.txn_core.proofs.KeptLogs.{end_of, Appends, order_appends, log_appends, log_fills, ends_told, ends_latest, seal_appends, seal_ends, order_noted, order_written, order_checked, order_sent, order_synced, order_named}

@@ -4,11 +4,11 @@ use Rattle.std.specs.Prelude.{is_some, IfSome, MatchOption}
 use Rattle.std.proofs.Math.Nat.{mod-lt, lt-mul-div-succ, mul-le-mul_right}
 use Rattle.std.proofs.lemmas.Nat.{div-mul-add}
 use Rattle.std.proofs.lemmas.Bool.{cases_lt}
-use Rattle.log_page.specs.Places.{place_bits, sequence_bits, lap_of, page_lsn}
-use Rattle.log_page.proofs.PlacesFit.{log_fits}
-use Rattle.log_area.specs.Areas.{LogAreaOf, ring_size, lap_at, place_at, number_lsn, fits, next_number, next_at, next_lsn}
-use Rattle.log_area.proofs.Numbering.{all_bits, next_inside}
-use Rattle.store_model.proofs.Told.{true≢false}
+use Rattle.txn_laws.specs.log_page.Places.{place_bits, sequence_bits, lap_of, page_lsn}
+use Rattle.txn_laws.proofs.log_page.PlacesFit.{log_fits}
+use Rattle.device_blocks.specs.log_area.Areas.{LogAreaOf, ring_size, lap_at, place_at, number_lsn, fits, next_number, next_at, next_lsn}
+use Rattle.device_blocks.proofs.log_area.Numbering.{all_bits, next_inside}
+use Rattle.txn_laws.proofs.store_model.Told.{true≢false}
 use Rattle.txn_core.specs.Tells.{HasLap}
 
 module _ (a : LogAreaOf) (some : 4 < a.pages) (few : a.pages < 2 ^ 52) where

@@ -4,24 +4,24 @@ use Rattle.std.specs.Prelude.{◌&&◌, ◌||◌, nat_lt, count_by, is_some, unw
 use Rattle.std.specs.List.{list_any}
 use Rattle.std.proofs.lemmas.Bool.{le-ltb}
 use Rattle.std.proofs.lemmas.List.Sums.{sum_by-cons}
-use Rattle.disk_model.specs.declared.block.Block.{Block}
-use Rattle.disk_model.specs.Sectors.{same_block, are_rivals}
-use Rattle.disk_model.proofs.Frames.{same_block-is}
-use Rattle.log_area.specs.Areas.{LogAreaOf, is_filling, used_pages, ring_size, sealed_area}
-use Rattle.block_pool.specs.Pools.{held}
-use Rattle.store_pools.specs.Pools.{marks_of}
-use Rattle.store_model.proofs.Told.{true≢false}
-use Rattle.flush_policy.specs.declared.facts.Facts.{Facts}
-use Rattle.flush_policy.specs.declared.facts.StoreStep.{StoreStep}
-use Rattle.flush_policy.specs.declared.facts.StoreStep.TheVariants.{SealPage, WritePage, SyncDevice, WriteOut, BeginCheckpoint, WriteRestart}
-use Rattle.flush_policy.specs.Choice.{next_step}
-use Rattle.flush_policy.specs.Steps.{MayTake, Becomes}
-use Rattle.flush_policy.proofs.Steps.{may_be_taken, rests_only_when_done, leaves_less}
-use Rattle.txn_log.proofs.Sharing.{same_self}
-use Rattle.txn_model.specs.declared.mark.Mark.{Mark}
-use Rattle.txn_model.specs.Values.{no_mark, StoreFacts}
-use Rattle.txn_model.specs.Calls.{sealed_facts, noted_facts, written_facts, synced_facts, named_facts, is_ready, written_out_facts, again_facts, is_noted}
-use Rattle.txn_model.specs.Told.{FactsTold, IsAllSynced, AreDirty, KeepsSteps, MayTakeStep}
+use Rattle.device_blocks.specs.disk_model.declared.block.Block.{Block}
+use Rattle.device_blocks.specs.disk_model.Sectors.{same_block, are_rivals}
+use Rattle.device_blocks.proofs.disk_model.Frames.{same_block-is}
+use Rattle.device_blocks.specs.log_area.Areas.{LogAreaOf, is_filling, used_pages, ring_size, sealed_area}
+use Rattle.txn_laws.specs.block_pool.Pools.{held}
+use Rattle.txn_state.specs.store_pools.Pools.{marks_of}
+use Rattle.txn_laws.proofs.store_model.Told.{true≢false}
+use Rattle.txn_laws.specs.flush_policy.declared.facts.Facts.{Facts}
+use Rattle.txn_laws.specs.flush_policy.declared.facts.StoreStep.{StoreStep}
+use Rattle.txn_laws.specs.flush_policy.declared.facts.StoreStep.TheVariants.{SealPage, WritePage, SyncDevice, WriteOut, BeginCheckpoint, WriteRestart}
+use Rattle.txn_laws.specs.flush_policy.Choice.{next_step}
+use Rattle.txn_laws.specs.flush_policy.Steps.{MayTake, Becomes}
+use Rattle.txn_laws.proofs.flush_policy.Steps.{may_be_taken, rests_only_when_done, leaves_less}
+use Rattle.txn_state.proofs.txn_log.Sharing.{same_self}
+use Rattle.txn_laws.specs.txn_model.declared.mark.Mark.{Mark}
+use Rattle.txn_laws.specs.txn_model.Values.{no_mark, StoreFacts}
+use Rattle.txn_laws.specs.txn_model.Calls.{sealed_facts, noted_facts, written_facts, synced_facts, named_facts, is_ready, written_out_facts, again_facts, is_noted}
+use Rattle.txn_laws.specs.txn_model.Told.{FactsTold, IsAllSynced, AreDirty, KeepsSteps, MayTakeStep}
 use Rattle.txn_state.specs.States.{StateOf, facts_of}
 use Rattle.txn_laws.proofs.Choosing.{next_may_be_taken}
 use Rattle.txn_laws.proofs.Counting.{take_out, out_length, out_count, fewer, told_can_be}

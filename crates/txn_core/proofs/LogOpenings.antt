@@ -1,9 +1,9 @@
 -- A session is opened on a log of a disk on which nothing is unsynced.
 use Rattle.std.proofs.Common.{◌+◌, refl, arith}
-use Rattle.sector_device.specs.Disks.{seen}
-use Rattle.ring_laws.specs.PageBytes.{page_sector, raw_page}
-use Rattle.ring_laws.specs.RestartPages.{RestartFields, said_restart}
-use Rattle.area_laws.proofs.Joined.{starts}
+use Rattle.txn_laws.specs.sector_device.Disks.{seen}
+use Rattle.txn_laws.specs.ring_laws.PageBytes.{page_sector, raw_page}
+use Rattle.txn_laws.specs.ring_laws.RestartPages.{RestartFields, said_restart}
+use Rattle.txn_laws.proofs.area_laws.Joined.{starts}
 use Rattle.txn_core.specs.Openings.{LogsOpen}
 
 pub logs_open : LogsOpen

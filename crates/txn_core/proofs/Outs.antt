@@ -3,21 +3,21 @@ use Rattle.std.proofs.Common.{◌≡◌, ◌⊎◌, subst, ℕ, ◌+◌, ◌%◌
 use Rattle.std.specs.Prelude.{IfSome, is_some, is_ok, unwrap_or, not, nat_lt, ◌||◌, ◌==◌}
 use Rattle.host_base.specs.Causes.{last_moment}
 use Rattle.host_base.specs.declared.outside.Failed.{Failed}
-use Rattle.disk_model.specs.declared.block.Block.{Block}
-use Rattle.disk_model.specs.declared.block.Body.{Body}
-use Rattle.disk_model.specs.Sectors.{sector_of, sectors, raw_from, same_block, are_rivals}
-use Rattle.fixup_record.specs.Protecting.{next_check_word}
-use Rattle.fixup_record.specs.Spellings.{has_spelling}
-use Rattle.sector_device.specs.Disks.{Disk, IsSized, SeesDisk, is_within}
-use Rattle.sector_device.specs.Sectors.{IsDiskOf, sectors_of}
-use Rattle.sector_device.specs.Moments.{moment_after, Changes}
-use Rattle.log_area.specs.Calls.{IsAsked, sending_moment}
-use Rattle.store_model.specs.Volumes.{sectors_from}
-use Rattle.store_claims.specs.Windows.{StoreWindow}
-use Rattle.block_pool.specs.Pools.{held, with_block, without_block}
-use Rattle.block_pool.proofs.LookUps.{looks_up}
-use Rattle.txn_model.specs.Values.{StoreFacts}
-use Rattle.txn_model.specs.Calls.{is_ready, written_out_facts, again_facts}
+use Rattle.device_blocks.specs.disk_model.declared.block.Block.{Block}
+use Rattle.device_blocks.specs.disk_model.declared.block.Body.{Body}
+use Rattle.device_blocks.specs.disk_model.Sectors.{sector_of, sectors, raw_from, same_block, are_rivals}
+use Rattle.device_blocks.specs.fixup_record.Protecting.{next_check_word}
+use Rattle.device_blocks.specs.fixup_record.Spellings.{has_spelling}
+use Rattle.txn_laws.specs.sector_device.Disks.{Disk, IsSized, SeesDisk, is_within}
+use Rattle.txn_laws.specs.sector_device.Sectors.{IsDiskOf, sectors_of}
+use Rattle.txn_laws.specs.sector_device.Moments.{moment_after, Changes}
+use Rattle.device_blocks.specs.log_area.Calls.{IsAsked, sending_moment}
+use Rattle.txn_laws.specs.store_model.Volumes.{sectors_from}
+use Rattle.txn_laws.specs.store_claims.Windows.{StoreWindow}
+use Rattle.txn_laws.specs.block_pool.Pools.{held, with_block, without_block}
+use Rattle.txn_laws.proofs.block_pool.LookUps.{looks_up}
+use Rattle.txn_laws.specs.txn_model.Values.{StoreFacts}
+use Rattle.txn_laws.specs.txn_model.Calls.{is_ready, written_out_facts, again_facts}
 use Rattle.txn_state.specs.States.{IsStore}
 use Rattle.txn_laws.specs.Windows.{Simulates, AfterWrite, MovesTo}
 use Rattle.txn_laws.proofs.Telling.{by_read, known_before_write}

@@ -1,9 +1,9 @@
 -- The sizes of bodies.
 use Rattle.std.proofs.Common.{◌≡◌, ◌*◌, ◌≤◌, Some, arith}
 use Rattle.std.specs.Prelude.{IfSome}
-use Rattle.disk_model.specs.declared.block.BlockKind.{BlockKind}
-use Rattle.disk_model.specs.declared.block.BlockKind.TheVariants.{Plain, FileRec, Index}
-use Rattle.disk_model.specs.Sectors.{sectors}
+use Rattle.device_blocks.specs.disk_model.declared.block.BlockKind.{BlockKind}
+use Rattle.device_blocks.specs.disk_model.declared.block.BlockKind.TheVariants.{Plain, FileRec, Index}
+use Rattle.device_blocks.specs.disk_model.Sectors.{sectors}
 use Rattle.txn_state.specs.States.{StateOf, facts_of, IsStore, HasSize}
 use Rattle.txn_core.specs.Views.{KeepsSizes}
 

@@ -4,22 +4,22 @@ use Rattle.std.specs.Prelude.{IfSome, OnOk, OnErr, is_some, unwrap_or}
 use Rattle.std.proofs.Math.Nat.{div-lt_iff_lt-mul, lt-mul-div-succ}
 use Rattle.std.proofs.lemmas.Nat.{div-add-mod'}
 use Rattle.host_base.specs.declared.outside.Failed.{Failed}
-use Rattle.fixup_record.specs.Protecting.{protected_bytes}
-use Rattle.sector_device.specs.Disks.{IsSized, SeesDisk}
-use Rattle.sector_device.specs.Moments.{Changes}
-use Rattle.log_page.specs.declared.restart.Restart.{Restart}
-use Rattle.log_page.specs.Places.{sequence_bits, lsn_at, lap_of, page_of, is_in_ring}
-use Rattle.log_page.specs.Restarts.{restart_spelling}
-use Rattle.log_area.specs.declared.restart.SentRestart.{SentRestart}
-use Rattle.log_area.specs.Areas.{LogAreaOf, is_filling, ring_size, lap_at, fits, next_number, number_of, IsOldest, restart_sector, sent_word, page_to_send, named_area}
-use Rattle.log_area.specs.Calls.{SentOrAsked, IsSentOrNot}
-use Rattle.ring_laws.specs.Numbers.{LogSession, lsn_of_page}
-use Rattle.ring_laws.proofs.Numbering.{says_lap, says_page, says_ring}
-use Rattle.txn_model.specs.Values.{StoreFacts}
-use Rattle.txn_model.specs.Calls.{noted_facts, front_lsn}
+use Rattle.device_blocks.specs.fixup_record.Protecting.{protected_bytes}
+use Rattle.txn_laws.specs.sector_device.Disks.{IsSized, SeesDisk}
+use Rattle.txn_laws.specs.sector_device.Moments.{Changes}
+use Rattle.txn_laws.specs.log_page.declared.restart.Restart.{Restart}
+use Rattle.txn_laws.specs.log_page.Places.{sequence_bits, lsn_at, lap_of, page_of, is_in_ring}
+use Rattle.txn_laws.specs.log_page.Restarts.{restart_spelling}
+use Rattle.device_blocks.specs.log_area.declared.restart.SentRestart.{SentRestart}
+use Rattle.device_blocks.specs.log_area.Areas.{LogAreaOf, is_filling, ring_size, lap_at, fits, next_number, number_of, IsOldest, restart_sector, sent_word, page_to_send, named_area}
+use Rattle.device_blocks.specs.log_area.Calls.{SentOrAsked, IsSentOrNot}
+use Rattle.txn_laws.specs.ring_laws.Numbers.{LogSession, lsn_of_page}
+use Rattle.txn_laws.proofs.ring_laws.Numbering.{says_lap, says_page, says_ring}
+use Rattle.txn_laws.specs.txn_model.Values.{StoreFacts}
+use Rattle.txn_laws.specs.txn_model.Calls.{noted_facts, front_lsn}
 use Rattle.txn_state.specs.States.{StateOf, facts_of, IsStore}
 use Rattle.txn_laws.specs.Windows.{SimulatesAs, Simulates, AfterWrite}
-use Rattle.txn_model.specs.Told.{pages_end}
+use Rattle.txn_laws.specs.txn_model.Told.{pages_end}
 use Rattle.txn_laws.specs.Laws.{MayEndCheckpoint, MayClose}
 use Rattle.txn_laws.proofs.Telling.{in_memory}
 use Rattle.txn_laws.proofs.Noting.{notes}

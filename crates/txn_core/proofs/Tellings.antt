@@ -3,21 +3,21 @@ use Rattle.std.proofs.Common.{◌≡◌, ◌⊎◌, subst, ℕ, suc, ◌+◌, �
 use Rattle.std.specs.Prelude.{◌&&◌, ◌||◌, nat_le, IfSome, is_some}
 use Rattle.std.specs.List.{list_any}
 use Rattle.std.proofs.lemmas.Bool.{cases_Bool, cases_lt, lt-leb, lt-ltb}
-use Rattle.disk_model.specs.declared.block.Block.{Block}
-use Rattle.disk_model.specs.declared.block.Body.{Body}
-use Rattle.disk_model.specs.Sectors.{same_block, are_rivals}
-use Rattle.disk_model.proofs.Frames.{same_block-is}
-use Rattle.log_model.specs.Logs.{is_in_grid}
-use Rattle.log_page.specs.declared.places.LogPlace.{LogPlace}
-use Rattle.log_page.specs.Places.{sequence_bits, lsn_at}
-use Rattle.log_area.specs.declared.restart.SentRestart.{SentRestart}
-use Rattle.log_area.specs.Areas.{LogAreaOf, lap_at, next_number, next_lsn, number_lsn, is_filling, sealed_area, synced_area, named_area}
-use Rattle.store_model.proofs.Told.{true≢false}
-use Rattle.txn_log.proofs.Sharing.{among_rivals}
-use Rattle.txn_model.specs.declared.mark.Mark.{Mark}
-use Rattle.txn_model.specs.Values.{StoreFacts}
-use Rattle.txn_model.specs.Calls.{first_facts, begun_facts, changed_mark, rival_mark, changed_facts, committed_facts, given_up_facts, sealed_facts, noted_facts, written_facts, front_lsn, synced_facts, rivals_of, is_noted, is_ready, written_out_facts, sent_out_facts, again_facts}
-use Rattle.txn_model.specs.Told.{is_left}
+use Rattle.device_blocks.specs.disk_model.declared.block.Block.{Block}
+use Rattle.device_blocks.specs.disk_model.declared.block.Body.{Body}
+use Rattle.device_blocks.specs.disk_model.Sectors.{same_block, are_rivals}
+use Rattle.device_blocks.proofs.disk_model.Frames.{same_block-is}
+use Rattle.txn_laws.specs.log_model.Logs.{is_in_grid}
+use Rattle.txn_laws.specs.log_page.declared.places.LogPlace.{LogPlace}
+use Rattle.txn_laws.specs.log_page.Places.{sequence_bits, lsn_at}
+use Rattle.device_blocks.specs.log_area.declared.restart.SentRestart.{SentRestart}
+use Rattle.device_blocks.specs.log_area.Areas.{LogAreaOf, lap_at, next_number, next_lsn, number_lsn, is_filling, sealed_area, synced_area, named_area}
+use Rattle.txn_laws.proofs.store_model.Told.{true≢false}
+use Rattle.txn_state.proofs.txn_log.Sharing.{among_rivals}
+use Rattle.txn_laws.specs.txn_model.declared.mark.Mark.{Mark}
+use Rattle.txn_laws.specs.txn_model.Values.{StoreFacts}
+use Rattle.txn_laws.specs.txn_model.Calls.{first_facts, begun_facts, changed_mark, rival_mark, changed_facts, committed_facts, given_up_facts, sealed_facts, noted_facts, written_facts, front_lsn, synced_facts, rivals_of, is_noted, is_ready, written_out_facts, sent_out_facts, again_facts}
+use Rattle.txn_laws.specs.txn_model.Told.{is_left}
 use Rattle.txn_state.specs.States.{IsStore}
 use Rattle.txn_core.specs.declared.telling.Telling.{Telling}
 use Rattle.txn_core.specs.Kept.{IsKept, IsBegun}

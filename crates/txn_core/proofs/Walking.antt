@@ -3,19 +3,19 @@ use Rattle.std.proofs.Common.{◌≡◌, subst, ℕ, ◌+◌, ◌-◌, ◌^◌, 
 use Rattle.std.specs.Prelude.{◌&&◌, nat_le, nat_lt, min, count_by, is_some, unwrap_or}
 use Rattle.std.proofs.lemmas.Bool.{cases_Bool, cases_lt, lt-ltb, le-ltb}
 use Rattle.std.proofs.lemmas.List.Sums.{sum_by-cons}
-use Rattle.disk_model.specs.declared.block.Block.{Block}
-use Rattle.disk_model.specs.Sectors.{same_block}
-use Rattle.disk_model.proofs.Frames.{same_block-is}
-use Rattle.txn_log.proofs.Sharing.{same_self}
-use Rattle.store_model.proofs.Told.{true≢false}
-use Rattle.block_pool.specs.Numbers.{block_number, block_at}
-use Rattle.block_pool.specs.Pools.{held, IsNextFrom, NoneFrom}
-use Rattle.block_pool.proofs.Ordering.{at_number}
-use Rattle.store_pools.specs.Pools.{marks_of}
-use Rattle.txn_model.specs.declared.mark.Mark.{Mark}
-use Rattle.txn_model.specs.Values.{no_mark, StoreFacts}
-use Rattle.txn_model.specs.Calls.{is_ready}
-use Rattle.txn_model.specs.Told.{is_left}
+use Rattle.device_blocks.specs.disk_model.declared.block.Block.{Block}
+use Rattle.device_blocks.specs.disk_model.Sectors.{same_block}
+use Rattle.device_blocks.proofs.disk_model.Frames.{same_block-is}
+use Rattle.txn_state.proofs.txn_log.Sharing.{same_self}
+use Rattle.txn_laws.proofs.store_model.Told.{true≢false}
+use Rattle.txn_laws.specs.block_pool.Numbers.{block_number, block_at}
+use Rattle.txn_laws.specs.block_pool.Pools.{held, IsNextFrom, NoneFrom}
+use Rattle.txn_laws.proofs.block_pool.Ordering.{at_number}
+use Rattle.txn_state.specs.store_pools.Pools.{marks_of}
+use Rattle.txn_laws.specs.txn_model.declared.mark.Mark.{Mark}
+use Rattle.txn_laws.specs.txn_model.Values.{no_mark, StoreFacts}
+use Rattle.txn_laws.specs.txn_model.Calls.{is_ready}
+use Rattle.txn_laws.specs.txn_model.Told.{is_left}
 use Rattle.txn_core.specs.Tells.{TellsLeft, IsLowestFrom, IsLowest}
 
 -- blocks with one number are the same

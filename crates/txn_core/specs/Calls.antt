@@ -1,14 +1,14 @@
 -- What each call that reaches the device makes of what a store keeps, and of its window, by what the call answers.
 use Rattle.std.specs.Prelude.{◌≡◌, ℕ, Bool, true, false, Option, Some, None, Result, Ok, Err, is_ok, List}
 use Rattle.host_base.specs.declared.outside.Failed.{Failed}
-use Rattle.disk_model.specs.declared.block.Block.{Block}
-use Rattle.disk_model.specs.declared.block.Body.{Body}
-use Rattle.fixup_record.specs.Spellings.{has_spelling}
-use Rattle.sector_device.specs.Moments.{Changes}
-use Rattle.store_claims.specs.Windows.{StoreWindow}
-use Rattle.block_pool.specs.Pools.{with_block, without_block}
-use Rattle.txn_model.specs.Values.{StoreFacts}
-use Rattle.txn_model.specs.Calls.{written_facts, is_buried, synced_facts, written_out_facts, sent_out_facts, again_facts}
+use Rattle.device_blocks.specs.disk_model.declared.block.Block.{Block}
+use Rattle.device_blocks.specs.disk_model.declared.block.Body.{Body}
+use Rattle.device_blocks.specs.fixup_record.Spellings.{has_spelling}
+use Rattle.txn_laws.specs.sector_device.Moments.{Changes}
+use Rattle.txn_laws.specs.store_claims.Windows.{StoreWindow}
+use Rattle.txn_laws.specs.block_pool.Pools.{with_block, without_block}
+use Rattle.txn_laws.specs.txn_model.Values.{StoreFacts}
+use Rattle.txn_laws.specs.txn_model.Calls.{written_facts, is_buried, synced_facts, written_out_facts, sent_out_facts, again_facts}
 use Rattle.txn_laws.specs.Windows.{AfterWrite, MovesTo}
 use Rattle.device_blocks.specs.declared.word.CheckWord.{CheckWord}
 use Rattle.device_blocks.specs.declared.word.CheckWord.TheVariants.{Unread, Missing, Stands, Sent}

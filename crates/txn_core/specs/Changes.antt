@@ -1,27 +1,27 @@
 -- What a change of a block asks, and what it does to a store.
 use Rattle.std.specs.Prelude.{◌≡◌, ◌⊎◌, ℕ, ◌+◌, ◌*◌, ◌/◌, ◌<◌, ◌≤◌, Bool, true, false, List, length, Option, None, is_some, unwrap_or, Result, Ok, Err, IfSome}
 use Rattle.host_base.specs.Answers.{Cause, refused, no_memory, failed}
-use Rattle.disk_model.specs.declared.block.Block.{Block}
-use Rattle.disk_model.specs.declared.block.Body.{Body}
-use Rattle.disk_model.specs.Bytes.{written}
-use Rattle.disk_model.specs.Content.{content_of}
-use Rattle.disk_model.specs.Sectors.{sector_of, sectors, are_rivals}
-use Rattle.fixup_record.specs.Spellings.{has_spelling}
-use Rattle.block_view.specs.declared.fault.ViewFault.{ViewFault}
-use Rattle.block_view.specs.declared.fault.ViewFault.TheVariants.{Fault as ViewFailed, Memory as ViewMemory}
+use Rattle.device_blocks.specs.disk_model.declared.block.Block.{Block}
+use Rattle.device_blocks.specs.disk_model.declared.block.Body.{Body}
+use Rattle.device_blocks.specs.disk_model.Bytes.{written}
+use Rattle.device_blocks.specs.disk_model.Content.{content_of}
+use Rattle.device_blocks.specs.disk_model.Sectors.{sector_of, sectors, are_rivals}
+use Rattle.device_blocks.specs.fixup_record.Spellings.{has_spelling}
+use Rattle.txn_laws.specs.block_view.declared.fault.ViewFault.{ViewFault}
+use Rattle.txn_laws.specs.block_view.declared.fault.ViewFault.TheVariants.{Fault as ViewFailed, Memory as ViewMemory}
 use Rattle.txn_core.specs.declared.fault.ChangeFault.{ChangeFault}
 use Rattle.txn_core.specs.declared.fault.ChangeFault.TheVariants.{Fault, Memory, Unspelled}
-use Rattle.block_pool.specs.Pools.{with_block}
-use Rattle.store_model.specs.Volumes.{is_known}
-use Rattle.store_claims.specs.Windows.{StoreWindow}
-use Rattle.txn_model.specs.Values.{StoreFacts, own_of}
-use Rattle.txn_model.specs.Appending.{MayAppendAll}
-use Rattle.txn_model.specs.Calls.{change_acts, changed_facts, given_up_facts}
+use Rattle.txn_laws.specs.block_pool.Pools.{with_block}
+use Rattle.txn_laws.specs.store_model.Volumes.{is_known}
+use Rattle.txn_laws.specs.store_claims.Windows.{StoreWindow}
+use Rattle.txn_laws.specs.txn_model.Values.{StoreFacts, own_of}
+use Rattle.txn_laws.specs.txn_model.Appending.{MayAppendAll}
+use Rattle.txn_laws.specs.txn_model.Calls.{change_acts, changed_facts, given_up_facts}
 use Rattle.txn_state.specs.States.{HasSize}
 use Rattle.txn_laws.specs.Windows.{AfterChange, AfterGiveUp}
 use Rattle.device_blocks.specs.declared.word.CheckWord.{CheckWord}
 use Rattle.device_blocks.specs.Words.{IsToldOf, changed_word, IsFitWord}
-use Rattle.store_pools.specs.Pools.{body_of_kept}
+use Rattle.txn_state.specs.store_pools.Pools.{body_of_kept}
 use Rattle.txn_core.specs.Seen.{word_of}
 use Rattle.txn_core.specs.declared.changing.Present.{Present}
 

@@ -1,11 +1,11 @@
 -- What is always so of a store, beside what its state keeps by itself.
 use Rattle.std.specs.Prelude.{◌≡◌, ℕ, ◌-◌, ◌^◌, ◌<◌, ◌≤◌, ◌||◌, true, false, Option, None, IfSome, is_some, slice_index, Some}
-use Rattle.disk_model.specs.declared.block.Block.{Block}
-use Rattle.log_page.specs.Places.{page_bytes, entries_at}
-use Rattle.log_area.specs.Areas.{LogAreaOf, ring_size, place_at, used_pages}
-use Rattle.txn_model.specs.declared.mark.Mark.{Mark}
-use Rattle.txn_model.specs.Values.{StoreFacts}
-use Rattle.txn_model.specs.Told.{pages_end}
+use Rattle.device_blocks.specs.disk_model.declared.block.Block.{Block}
+use Rattle.txn_laws.specs.log_page.Places.{page_bytes, entries_at}
+use Rattle.device_blocks.specs.log_area.Areas.{LogAreaOf, ring_size, place_at, used_pages}
+use Rattle.txn_laws.specs.txn_model.declared.mark.Mark.{Mark}
+use Rattle.txn_laws.specs.txn_model.Values.{StoreFacts}
+use Rattle.txn_laws.specs.txn_model.Told.{pages_end}
 
 -- The log's pages are filled, sealed, written and synced in order, no more of them than the ring has; and neither what a restart page names nor what a checkpoint noted
 -- is before the oldest page; and the first is the second.

@@ -1,16 +1,16 @@
 -- What the steps of a store lead to, one after the other.
 use Rattle.std.specs.Prelude.{◌≡◌, ◌↔◌, ◌<◌, ◌&&◌, not, Bool, false, if◌then◌else◌, List, [], ◌∷◌, length, Some, None, Ok}
 use Rattle.std.specs.List.{list_any}
-use Rattle.disk_model.specs.declared.block.Block.{Block}
-use Rattle.disk_model.specs.Sectors.{same_block}
-use Rattle.flush_policy.specs.declared.facts.Facts.{Facts}
-use Rattle.flush_policy.specs.declared.facts.StoreStep.{StoreStep}
-use Rattle.flush_policy.specs.Choice.{next_step}
-use Rattle.flush_policy.specs.Steps.{IsDone, to_do}
-use Rattle.store_pools.specs.Pools.{marks_of}
-use Rattle.txn_model.specs.declared.mark.Mark.{Mark}
-use Rattle.txn_model.specs.Values.{StoreFacts}
-use Rattle.txn_model.specs.Told.{FactsTold, AreDirty, KeepsSteps}
+use Rattle.device_blocks.specs.disk_model.declared.block.Block.{Block}
+use Rattle.device_blocks.specs.disk_model.Sectors.{same_block}
+use Rattle.txn_laws.specs.flush_policy.declared.facts.Facts.{Facts}
+use Rattle.txn_laws.specs.flush_policy.declared.facts.StoreStep.{StoreStep}
+use Rattle.txn_laws.specs.flush_policy.Choice.{next_step}
+use Rattle.txn_laws.specs.flush_policy.Steps.{IsDone, to_do}
+use Rattle.txn_state.specs.store_pools.Pools.{marks_of}
+use Rattle.txn_laws.specs.txn_model.declared.mark.Mark.{Mark}
+use Rattle.txn_laws.specs.txn_model.Values.{StoreFacts}
+use Rattle.txn_laws.specs.txn_model.Told.{FactsTold, AreDirty, KeepsSteps}
 use Rattle.txn_state.specs.States.{StateOf, facts_of}
 use Rattle.txn_core.specs.Kept.{IsKept}
 use Rattle.txn_core.specs.Steps.{MayTurn, HasTurned}

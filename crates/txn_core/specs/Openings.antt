@@ -1,22 +1,22 @@
 -- How a store begins on a device.
 use Rattle.std.specs.Prelude.{◌≡◌, ℕ, ◌-◌, ◌^◌, ◌<◌, ◌≤◌, true, false, List, [], Option, Some, None, Ok}
-use Rattle.disk_model.specs.declared.block.Block.{Block}
-use Rattle.sector_device.specs.Disks.{Disk, IsSettled, IsSized, seen}
-use Rattle.sector_device.specs.Moments.{Changes}
-use Rattle.log_page.specs.declared.places.LogPlace.{LogPlace}
-use Rattle.log_page.specs.declared.restart.Restart.{Restart}
-use Rattle.log_page.specs.Places.{lap_of, sequence_bits}
-use Rattle.log_page.specs.LiveLogs.{said_lsn}
-use Rattle.log_page.specs.Restarts.{is_blank}
-use Rattle.log_reading.specs.Rings.{IsRingPlace}
-use Rattle.log_area.specs.Areas.{LogAreaOf, new_area}
-use Rattle.store_model.specs.Rings.{Ring, Restarts}
-use Rattle.store_model.specs.Geometry.{SectorBytes}
-use Rattle.ring_laws.specs.Numbers.{IsInRing}
-use Rattle.ring_laws.specs.PageBytes.{raw_page}
-use Rattle.ring_laws.specs.RestartPages.{RestartFields, IsBelow, said_restart}
-use Rattle.area_laws.specs.Standing.{Stands}
-use Rattle.area_laws.specs.Laws.{SendsRestart}
+use Rattle.device_blocks.specs.disk_model.declared.block.Block.{Block}
+use Rattle.txn_laws.specs.sector_device.Disks.{Disk, IsSettled, IsSized, seen}
+use Rattle.txn_laws.specs.sector_device.Moments.{Changes}
+use Rattle.txn_laws.specs.log_page.declared.places.LogPlace.{LogPlace}
+use Rattle.txn_laws.specs.log_page.declared.restart.Restart.{Restart}
+use Rattle.txn_laws.specs.log_page.Places.{lap_of, sequence_bits}
+use Rattle.txn_laws.specs.log_page.LiveLogs.{said_lsn}
+use Rattle.txn_laws.specs.log_page.Restarts.{is_blank}
+use Rattle.txn_laws.specs.log_reading.Rings.{IsRingPlace}
+use Rattle.device_blocks.specs.log_area.Areas.{LogAreaOf, new_area}
+use Rattle.txn_laws.specs.store_model.Rings.{Ring, Restarts}
+use Rattle.txn_laws.specs.store_model.Geometry.{SectorBytes}
+use Rattle.txn_laws.specs.ring_laws.Numbers.{IsInRing}
+use Rattle.txn_laws.specs.ring_laws.PageBytes.{raw_page}
+use Rattle.txn_laws.specs.ring_laws.RestartPages.{RestartFields, IsBelow, said_restart}
+use Rattle.txn_laws.specs.area_laws.Standing.{Stands}
+use Rattle.txn_laws.specs.area_laws.Laws.{SendsRestart}
 use Rattle.txn_laws.specs.Laws.{SyncsNow, StartsOn}
 
 -- On the disk a session may begin with this lap: its new ring, which has no entry, stands there.

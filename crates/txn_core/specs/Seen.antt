@@ -1,9 +1,9 @@
 -- What contracts see of a store on a device, and what is always so of it.
 use Rattle.std.specs.Prelude.{◌≡◌, ◌≤◌, ℕ, Bool, true, false, List, is_some, IfSome, unwrap_or}
-use Rattle.disk_model.specs.declared.block.Block.{Block}
-use Rattle.sector_device.specs.Moments.{Changes}
-use Rattle.store_claims.specs.Windows.{StoreWindow}
-use Rattle.block_pool.specs.Pools.{held}
+use Rattle.device_blocks.specs.disk_model.declared.block.Block.{Block}
+use Rattle.txn_laws.specs.sector_device.Moments.{Changes}
+use Rattle.txn_laws.specs.store_claims.Windows.{StoreWindow}
+use Rattle.txn_laws.specs.block_pool.Pools.{held}
 use Rattle.txn_state.specs.States.{StateOf, facts_of}
 use Rattle.txn_core.specs.Kept.{IsKept}
 use Rattle.txn_laws.specs.Windows.{HasMachineAs, SimulatesAs}

@@ -1,12 +1,12 @@
 -- Bodies have their blocks' sizes: the proof of a law of views.
 use Rattle.std.proofs.Common.{◌≡◌, ℕ, ◌*◌, List, length, Option, Some, None, refl}
 use Rattle.std.specs.Prelude.{IfSome, unwrap_or}
-use Rattle.disk_model.specs.declared.block.Block.{Block}
-use Rattle.disk_model.specs.declared.block.Body.{Body}
-use Rattle.disk_model.specs.Content.{HasSizes, content_of}
-use Rattle.disk_model.specs.Sectors.{sector_of, sectors}
-use Rattle.sector_device.specs.Sectors.{IsDiskOf}
-use Rattle.device_view.specs.Sizes.{sized_sectors}
+use Rattle.device_blocks.specs.disk_model.declared.block.Block.{Block}
+use Rattle.device_blocks.specs.disk_model.declared.block.Body.{Body}
+use Rattle.device_blocks.specs.disk_model.Content.{HasSizes, content_of}
+use Rattle.device_blocks.specs.disk_model.Sectors.{sector_of, sectors}
+use Rattle.txn_laws.specs.sector_device.Sectors.{IsDiskOf}
+use Rattle.device_blocks.specs.device_view.Sizes.{sized_sectors}
 use Rattle.txn_state.specs.States.{StateOf, facts_of, HasSize}
 use Rattle.txn_core.specs.Views.{present_content, KeepsSizes}
 

@@ -1,17 +1,17 @@
 -- The steps of a store by name: when each may be taken, and what it makes of what the store keeps, of its device and of its window.
 use Rattle.std.specs.Prelude.{◌≡◌, ℕ, ◌<◌, true, false, List, Option, None, Result, Ok, is_ok}
 use Rattle.host_base.specs.declared.outside.Failed.{Failed}
-use Rattle.disk_model.specs.declared.block.Block.{Block}
-use Rattle.disk_model.specs.Sectors.{are_rivals}
-use Rattle.fixup_record.specs.Protecting.{protected_bytes}
-use Rattle.sector_device.specs.Moments.{moment_after, Changes, Syncs}
-use Rattle.log_area.specs.Areas.{is_filling, page_sector, held_page, made_page}
-use Rattle.log_area.specs.Calls.{IsSentOrNot}
-use Rattle.store_claims.specs.Windows.{StoreWindow}
-use Rattle.flush_policy.specs.declared.facts.StoreStep.{StoreStep}
-use Rattle.flush_policy.specs.declared.facts.StoreStep.TheVariants.{SealPage, WritePage, SyncDevice, WriteOut, BeginCheckpoint, WriteRestart}
-use Rattle.txn_model.specs.Values.{StoreFacts}
-use Rattle.txn_model.specs.Calls.{sealed_facts, noted_facts, is_ready}
+use Rattle.device_blocks.specs.disk_model.declared.block.Block.{Block}
+use Rattle.device_blocks.specs.disk_model.Sectors.{are_rivals}
+use Rattle.device_blocks.specs.fixup_record.Protecting.{protected_bytes}
+use Rattle.txn_laws.specs.sector_device.Moments.{moment_after, Changes, Syncs}
+use Rattle.device_blocks.specs.log_area.Areas.{is_filling, page_sector, held_page, made_page}
+use Rattle.device_blocks.specs.log_area.Calls.{IsSentOrNot}
+use Rattle.txn_laws.specs.store_claims.Windows.{StoreWindow}
+use Rattle.txn_laws.specs.flush_policy.declared.facts.StoreStep.{StoreStep}
+use Rattle.txn_laws.specs.flush_policy.declared.facts.StoreStep.TheVariants.{SealPage, WritePage, SyncDevice, WriteOut, BeginCheckpoint, WriteRestart}
+use Rattle.txn_laws.specs.txn_model.Values.{StoreFacts}
+use Rattle.txn_laws.specs.txn_model.Calls.{sealed_facts, noted_facts, is_ready}
 use Rattle.txn_laws.specs.Windows.{AfterWrite, MovesTo}
 use Rattle.device_blocks.specs.declared.word.CheckWord.{CheckWord}
 use Rattle.txn_core.specs.Calls.{page_facts, sync_facts, AfterSync, is_spelled, out_facts, IsOut}

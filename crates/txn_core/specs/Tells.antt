@@ -1,14 +1,14 @@
 -- What a store keeps beside its state, so that it can tell of itself without a walk.
 use Rattle.std.specs.Prelude.{◌≡◌, ℕ, ◌-◌, ◌^◌, ◌<◌, ◌≤◌, Bool, true, false, min, if◌then◌else◌, List, length, count_by, Option, Some, None, IfSome, is_some}
-use Rattle.disk_model.specs.declared.block.Block.{Block}
-use Rattle.disk_model.specs.Sectors.{same_block}
-use Rattle.log_page.specs.Places.{sequence_bits}
-use Rattle.log_area.specs.Areas.{LogAreaOf, lap_at, next_number}
-use Rattle.block_pool.specs.Numbers.{block_number}
-use Rattle.txn_model.specs.declared.mark.Mark.{Mark}
-use Rattle.txn_model.specs.Values.{StoreFacts}
-use Rattle.txn_model.specs.Calls.{front_lsn, is_ready}
-use Rattle.txn_model.specs.Told.{is_left}
+use Rattle.device_blocks.specs.disk_model.declared.block.Block.{Block}
+use Rattle.device_blocks.specs.disk_model.Sectors.{same_block}
+use Rattle.txn_laws.specs.log_page.Places.{sequence_bits}
+use Rattle.device_blocks.specs.log_area.Areas.{LogAreaOf, lap_at, next_number}
+use Rattle.txn_laws.specs.block_pool.Numbers.{block_number}
+use Rattle.txn_laws.specs.txn_model.declared.mark.Mark.{Mark}
+use Rattle.txn_laws.specs.txn_model.Values.{StoreFacts}
+use Rattle.txn_laws.specs.txn_model.Calls.{front_lsn, is_ready}
+use Rattle.txn_laws.specs.txn_model.Told.{is_left}
 use Rattle.txn_core.specs.declared.telling.Telling.{Telling}
 
 -- some block was written since the last sync, or none

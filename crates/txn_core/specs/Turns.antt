@@ -1,17 +1,17 @@
 -- The steps of a store.
 use Rattle.std.specs.Prelude.{ℕ, ◌-◌, ◌^◌, ◌<◌, ◌≤◌, Bool, List, Option, unwrap_or, IfSome, Result, Ok, Err}
 use Rattle.host_base.specs.declared.outside.Failed.{Failed}
-use Rattle.fixup_record.specs.Protecting.{protected_bytes}
-use Rattle.sector_device.specs.Moments.{Changes}
-use Rattle.log_page.specs.declared.restart.Restart.{Restart}
-use Rattle.log_page.specs.Places.{sequence_bits}
-use Rattle.log_page.specs.Restarts.{restart_spelling}
-use Rattle.log_area.specs.declared.restart.SentRestart.{SentRestart}
-use Rattle.log_area.specs.Areas.{LogAreaOf, lap_at, next_number, restart_sector, sent_word, page_to_send}
-use Rattle.log_area.specs.Calls.{IsSentOrNot}
-use Rattle.txn_model.specs.Values.{StoreFacts}
-use Rattle.txn_model.specs.Calls.{MayNameNoted, front_lsn, named_facts}
-use Rattle.txn_model.specs.Told.{pages_end}
+use Rattle.device_blocks.specs.fixup_record.Protecting.{protected_bytes}
+use Rattle.txn_laws.specs.sector_device.Moments.{Changes}
+use Rattle.txn_laws.specs.log_page.declared.restart.Restart.{Restart}
+use Rattle.txn_laws.specs.log_page.Places.{sequence_bits}
+use Rattle.txn_laws.specs.log_page.Restarts.{restart_spelling}
+use Rattle.device_blocks.specs.log_area.declared.restart.SentRestart.{SentRestart}
+use Rattle.device_blocks.specs.log_area.Areas.{LogAreaOf, lap_at, next_number, restart_sector, sent_word, page_to_send}
+use Rattle.device_blocks.specs.log_area.Calls.{IsSentOrNot}
+use Rattle.txn_laws.specs.txn_model.Values.{StoreFacts}
+use Rattle.txn_laws.specs.txn_model.Calls.{MayNameNoted, front_lsn, named_facts}
+use Rattle.txn_laws.specs.txn_model.Told.{pages_end}
 
 -- a restart page can be made: there is a lap for the least entry, and its count of opens isn't at its type's end
 pub record HasNext (a : LogAreaOf) : Type 0 where

@@ -2,12 +2,12 @@
 use Rattle.std.specs.Prelude.{◌≡◌, ℕ, List, Option, Some, unwrap_or}
 use Rattle.std.specs.Option.{option_map}
 use Rattle.std.specs.Borrow.{MutBor}
-use Rattle.disk_model.specs.declared.block.Block.{Block}
-use Rattle.disk_model.specs.declared.block.Body.{Body}
-use Rattle.disk_model.specs.Sectors.{sector_of}
-use Rattle.disk_model.specs.Content.{Content, content_of}
-use Rattle.sector_device.specs.Moments.{Changes}
-use Rattle.txn_model.specs.Values.{StoreFacts}
+use Rattle.device_blocks.specs.disk_model.declared.block.Block.{Block}
+use Rattle.device_blocks.specs.disk_model.declared.block.Body.{Body}
+use Rattle.device_blocks.specs.disk_model.Sectors.{sector_of}
+use Rattle.device_blocks.specs.disk_model.Content.{Content, content_of}
+use Rattle.txn_laws.specs.sector_device.Moments.{Changes}
+use Rattle.txn_laws.specs.txn_model.Values.{StoreFacts}
 use Rattle.txn_state.specs.States.{StateOf, facts_of, HasSize}
 use Rattle.device_blocks.specs.declared.word.CheckWord.{CheckWord}
 use Rattle.txn_core.specs.Seen.{Seen}

@@ -1,14 +1,14 @@
 //! Changes of blocks in a transaction.
 ghost use Rattle.std.specs.Prelude.{◌≡◌, ◌⊎◌, ◌≤◌, ◌+◌, ◌*◌, true, false, length, None, Some, OnOk, OnErr, IfOk, IfErr, IfSome, is_some};
-ghost use Rattle.disk_model.specs.Bytes.{written};
-ghost use Rattle.fixup_record.specs.Spellings.{has_spelling};
-ghost use Rattle.disk_model.specs.Content.{content_of};
-ghost use Rattle.disk_model.specs.Sectors.{sector_of, sectors};
-ghost use Rattle.block_pool.specs.Pools.{with_block};
-ghost use Rattle.device_view.specs.Devices.{CountsOnDevice};
+ghost use Rattle.device_blocks.specs.disk_model.Bytes.{written};
+ghost use Rattle.device_blocks.specs.fixup_record.Spellings.{has_spelling};
+ghost use Rattle.device_blocks.specs.disk_model.Content.{content_of};
+ghost use Rattle.device_blocks.specs.disk_model.Sectors.{sector_of, sectors};
+ghost use Rattle.txn_laws.specs.block_pool.Pools.{with_block};
+ghost use Rattle.device_blocks.specs.device_view.Devices.{CountsOnDevice};
 ghost use Rattle.device_blocks.specs.Words.{IsToldOf, changed_word, IsFitWord};
-ghost use Rattle.store_pools.specs.Pools.{body_of_kept};
-ghost use Rattle.txn_model.specs.Calls.{changed_facts, given_up_facts};
+ghost use Rattle.txn_state.specs.store_pools.Pools.{body_of_kept};
+ghost use Rattle.txn_laws.specs.txn_model.Calls.{changed_facts, given_up_facts};
 ghost use Rattle.txn_state.specs.States.{facts_of, HasSize, MayChange};
 ghost use Rattle.txn_core.specs.declared.fault.ChangeFault.TheVariants.{Unspelled};
 ghost use Rattle.txn_core.specs.Changes.{view_cause, change_cause, change_fault, IsPut, IsPresent, WordIsPut, MayChangeNow, HasChanged, AfterChanging, IsDone};
@@ -17,16 +17,11 @@ ghost use Rattle.txn_core.specs.Seen.{word_of, TakesStep};
 use crate::fault::ChangeFault;
 use crate::store::Store;
 use crate::writing::word_of;
-use block_pool::Pool;
-use block_view::ViewFault;
-use device_blocks::{CheckWord, read_block};
-use disk_model::{Block, Body, put_bytes};
-use fixup_record::has_spelling;
+use device_blocks::{Block, Body, CheckWord, has_spelling, put_bytes, read_block};
 use host_base::{Bytes, Failed};
-use sector_device::Device;
 use std::alloc::{AllocError, Global};
-use store_pools::KeptBody;
-use txn_state::StoreState;
+use txn_laws::{Device, Pool, ViewFault};
+use txn_state::{KeptBody, StoreState};
 
 // A body, and what is known of the check word of its block.
 #[derive(Drop)]

@@ -1,9 +1,9 @@
 //! Checkpoints begin and end.
 ghost use Rattle.std.specs.Prelude.{◌≡◌, ◌≤◌, None, OnErr, IfSome, true, false, List};
-ghost use Rattle.disk_model.specs.declared.block.Block.{Block};
+ghost use Rattle.device_blocks.specs.disk_model.declared.block.Block.{Block};
 ghost use Rattle.host_base.specs.Causes.{FailsByCause};
 ghost use Rattle.device_blocks.specs.declared.word.CheckWord.{CheckWord};
-ghost use Rattle.txn_model.specs.Calls.{noted_facts};
+ghost use Rattle.txn_laws.specs.txn_model.Calls.{noted_facts};
 ghost use Rattle.txn_state.specs.States.{facts_of};
 ghost use Rattle.txn_laws.specs.Windows.{SimulatesAs, AfterWrite};
 ghost use Rattle.txn_core.specs.Kept.{IsKept};
@@ -13,7 +13,7 @@ ghost use Rattle.txn_core.specs.Turns.{MayRestart, IsLast, restart_page, restart
 
 use crate::store::Store;
 use host_base::Failed;
-use sector_device::Device;
+use txn_laws::Device;
 use txn_state::StoreState;
 
 // The flag of the restart page that goes out: that of the page that was sent already, or this one.

@@ -1,7 +1,7 @@
 //! A store that ends.
 ghost use Rattle.std.specs.Prelude.{◌≡◌, true, OnErr, IfSome};
 ghost use Rattle.host_base.specs.Causes.{FailsByCause};
-ghost use Rattle.sector_device.specs.Moments.{moment_after, Syncs};
+ghost use Rattle.txn_laws.specs.sector_device.Moments.{moment_after, Syncs};
 ghost use Rattle.txn_state.specs.States.{facts_of};
 ghost use Rattle.txn_laws.specs.Windows.{AfterWrite};
 ghost use Rattle.txn_core.specs.Calls.{sync_facts, AfterSync};
@@ -10,11 +10,10 @@ ghost use Rattle.txn_core.specs.Turns.{MayRestart, IsLast, restart_page, restart
 
 use crate::checkpoints::send_restart;
 use crate::store::Store;
-use block_pool::Pool;
 use device_blocks::CheckWord;
 use host_base::Failed;
-use sector_device::Device;
 use std::marker::Model;
+use txn_laws::{Device, Pool};
 use txn_state::StoreState;
 
 /// A store that ends by a last checkpoint, whose restart page says that the log is closed. Recovery

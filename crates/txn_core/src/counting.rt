@@ -1,21 +1,19 @@
 //! The pages that changes will take, and whether the log has room for them.
 ghost use Rattle.std.specs.Prelude.{◌≡◌, ◌↔◌, ◌+◌, ◌-◌, ◌^◌, ◌<◌, ◌≤◌, true, false, All, IfOk};
-ghost use Rattle.log_page.specs.Places.{sequence_bits};
-ghost use Rattle.log_area.specs.Areas.{ring_size, lap_at, next_number};
-ghost use Rattle.txn_log.specs.Laws.{HasRoom};
+ghost use Rattle.txn_laws.specs.log_page.Places.{sequence_bits};
+ghost use Rattle.device_blocks.specs.log_area.Areas.{ring_size, lap_at, next_number};
+ghost use Rattle.txn_state.specs.txn_log.Laws.{HasRoom};
 ghost use Rattle.txn_core.specs.Tells.{HasLap};
 ghost use Rattle.txn_core.specs.Rooms.{LacksRoom};
-ghost use Rattle.log_model.specs.Logs.{is_in_grid};
-ghost use Rattle.txn_log.specs.Counts.{capped, pages_needed};
+ghost use Rattle.txn_laws.specs.log_model.Logs.{is_in_grid};
+ghost use Rattle.txn_state.specs.txn_log.Counts.{capped, pages_needed};
 ghost use Rattle.txn_state.specs.States.{facts_of};
 
 use crate::store::Store;
-use disk_model::Change;
-use log_area::LogArea;
-use log_page::{lap_of, page_lsn};
-use sector_device::Device;
+use device_blocks::{Change, LogArea};
 use std::alloc::{AllocError, Global};
-use txn_log::pages_for;
+use txn_laws::{Device, lap_of, page_lsn};
+use txn_state::pages_for;
 
 // The page of the least entry that is appended next.
 fn next_number(log: &LogArea) -> u64

@@ -30,8 +30,11 @@ mod view;
 mod writing;
 
 pub use closing::Closing;
+pub use device_blocks::{CheckWord, LogArea, piece_room, write_body};
 pub use fault::ChangeFault;
 pub use laws::{logs_open, steps_lead_on};
 pub use opening::open_log;
 pub use store::Store;
+pub use txn_laws::{endings_tell, windows_tell};
+pub use txn_state::{StoreState, pages_are_enough, rival, rival_count};
 pub use view::StoreView;

@@ -1,21 +1,19 @@
 //! A session is opened on a log without entries.
 ghost use Rattle.std.specs.Prelude.{◌≡◌, ◌≤◌, ◌<◌, ◌^◌, None, IfOk, IfSome, OnOk};
-ghost use Rattle.device_view.specs.Devices.{CountsOnDevice};
+ghost use Rattle.device_blocks.specs.device_view.Devices.{CountsOnDevice};
 ghost use Rattle.host_base.specs.Causes.{FailsByCause};
-ghost use Rattle.log_page.specs.Places.{sequence_bits};
-ghost use Rattle.log_reading.specs.Rings.{IsRingPlace};
-ghost use Rattle.log_area.specs.Areas.{IsOldest, lap_at, next_number, new_area, named_area, synced_area};
+ghost use Rattle.txn_laws.specs.log_page.Places.{sequence_bits};
+ghost use Rattle.txn_laws.specs.log_reading.Rings.{IsRingPlace};
+ghost use Rattle.device_blocks.specs.log_area.Areas.{IsOldest, lap_at, next_number, new_area, named_area, synced_area};
 ghost use Rattle.txn_laws.specs.Laws.{opened_area};
 ghost use Rattle.txn_core.specs.Changes.{view_cause};
 ghost use Rattle.txn_core.specs.Kept.{IsBegun};
 ghost use Rattle.txn_core.specs.Openings.{OpensOn, NamesAndSyncs, StartsThen};
 
-use block_view::ViewFault;
+use device_blocks::LogArea;
 use host_base::{Failed, Memory};
-use log_area::LogArea;
-use log_page::LogPlace;
-use sector_device::Device;
 use std::alloc::{AllocError, Global};
+use txn_laws::{Device, LogPlace, ViewFault};
 
 // The ring of a new session.
 fn start_area(

@@ -1,10 +1,10 @@
 //! The steps that write the log and make it durable.
 ghost use Rattle.std.specs.Prelude.{◌≡◌, ◌<◌, ◌≤◌};
 ghost use Rattle.host_base.specs.Causes.{FailsByCause};
-ghost use Rattle.fixup_record.specs.Protecting.{protected_bytes};
-ghost use Rattle.log_area.specs.Areas.{page_sector, held_page, made_page};
-ghost use Rattle.log_area.specs.Calls.{IsSentOrNot};
-ghost use Rattle.sector_device.specs.Moments.{moment_after, Syncs};
+ghost use Rattle.device_blocks.specs.fixup_record.Protecting.{protected_bytes};
+ghost use Rattle.device_blocks.specs.log_area.Areas.{page_sector, held_page, made_page};
+ghost use Rattle.device_blocks.specs.log_area.Calls.{IsSentOrNot};
+ghost use Rattle.txn_laws.specs.sector_device.Moments.{moment_after, Syncs};
 ghost use Rattle.txn_state.specs.States.{facts_of};
 ghost use Rattle.txn_laws.specs.Windows.{AfterWrite};
 ghost use Rattle.txn_core.specs.Calls.{page_facts, sync_facts, AfterSync};
@@ -12,7 +12,7 @@ ghost use Rattle.txn_core.specs.Seen.{TakesStep};
 
 use crate::store::Store;
 use host_base::Failed;
-use sector_device::Device;
+use txn_laws::Device;
 
 impl<D: Device> Store<D> {
     /// Writes the oldest sealed page of the log that wasn't written, after a read of its place

@@ -1,8 +1,8 @@
 //! A store on a device.
 ghost use Rattle.std.specs.Prelude.{◌≡◌, ◌≤◌, Some};
-ghost use Rattle.disk_model.specs.Content.{content_of};
-ghost use Rattle.sector_device.specs.Disks.{Disk, seen};
-ghost use Rattle.txn_model.specs.Calls.{first_facts};
+ghost use Rattle.device_blocks.specs.disk_model.Content.{content_of};
+ghost use Rattle.txn_laws.specs.sector_device.Disks.{Disk, seen};
+ghost use Rattle.txn_laws.specs.txn_model.Calls.{first_facts};
 ghost use Rattle.txn_state.specs.States.{facts_of};
 ghost use Rattle.txn_laws.specs.Windows.{HasStart};
 ghost use Rattle.txn_core.specs.Kept.{IsBegun, IsKept};
@@ -10,11 +10,10 @@ ghost use Rattle.txn_core.specs.Openings.{StartsThen};
 ghost use Rattle.txn_core.specs.Tells.{LeavesOpen};
 
 use crate::telling::Telling;
-use block_pool::Pool;
 use device_blocks::CheckWord;
-use sector_device::Device;
 use std::alloc::Global;
 use std::marker::Model;
+use txn_laws::{Device, Pool};
 use txn_state::StoreState;
 
 /// A store of blocks on a device.

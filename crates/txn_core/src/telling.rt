@@ -1,16 +1,15 @@
 //! What a store keeps beside its state, so that it tells of itself without a walk.
 ghost use Rattle.std.specs.Prelude.{◌≡◌, ◌+◌, ◌*◌, ◌^◌, ◌<◌, ◌≤◌, ◌||◌, Bool, true, false, None};
-ghost use Rattle.block_pool.specs.Numbers.{block_number, number_after};
-ghost use Rattle.log_page.specs.Places.{sequence_bits};
-ghost use Rattle.log_area.specs.Areas.{lap_at, next_number, next_lsn};
-ghost use Rattle.txn_model.specs.Calls.{is_ready};
-ghost use Rattle.txn_model.specs.Told.{is_left};
+ghost use Rattle.txn_laws.specs.block_pool.Numbers.{block_number, number_after};
+ghost use Rattle.txn_laws.specs.log_page.Places.{sequence_bits};
+ghost use Rattle.device_blocks.specs.log_area.Areas.{lap_at, next_number, next_lsn};
+ghost use Rattle.txn_laws.specs.txn_model.Calls.{is_ready};
+ghost use Rattle.txn_laws.specs.txn_model.Told.{is_left};
 ghost use Rattle.txn_state.specs.States.{facts_of};
 ghost use Rattle.txn_core.specs.Tells.{TellsLeft, IsLowestFrom, IsLowest, StaysLowest};
 
-use disk_model::Block;
-use store_pools::Mark;
-use txn_state::StoreState;
+use device_blocks::Block;
+use txn_state::{Mark, StoreState};
 
 // What a store tells of its blocks, and the LSN of the place that a checkpoint noted.
 #[derive(Clone, Copy, Debug, Drop)]

@@ -1,15 +1,14 @@
 //! What a store tells of itself.
 ghost use Rattle.std.specs.Prelude.{◌≡◌, ◌+◌, ◌<◌, ◌≤◌, ◌&&◌, Bool, not, nat_lt, is_some, unwrap_or, false};
-ghost use Rattle.log_area.specs.Areas.{used_pages, ring_size, next_lsn};
-ghost use Rattle.txn_model.specs.Told.{FactsTold, KeepsMarked, KeepsSteps, is_fresh};
+ghost use Rattle.device_blocks.specs.log_area.Areas.{used_pages, ring_size, next_lsn};
+ghost use Rattle.txn_laws.specs.txn_model.Told.{FactsTold, KeepsMarked, KeepsSteps, is_fresh};
 ghost use Rattle.txn_state.specs.States.{facts_of};
 ghost use Rattle.txn_core.specs.Kept.{IsKept};
 ghost use Rattle.txn_core.specs.Tells.{IsAllDone, HasLap};
 
 use crate::store::Store;
-use flush_policy::Facts;
-use log_area::LogArea;
-use sector_device::Device;
+use device_blocks::LogArea;
+use txn_laws::{Device, Facts};
 
 // The pages of the ring that aren't free.
 fn used_pages(log: &LogArea) -> u64

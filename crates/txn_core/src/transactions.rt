@@ -1,15 +1,15 @@
 //! Transactions begin and end, in memory.
 ghost use Rattle.std.specs.Prelude.{◌≡◌, ◌<◌, ◌^◌, true, false};
-ghost use Rattle.log_model.specs.declared.entry.Act.TheVariants.{Commit};
-ghost use Rattle.txn_model.specs.Appending.{MayAppend};
-ghost use Rattle.txn_model.specs.Pieces.{next_entry};
-ghost use Rattle.txn_model.specs.Calls.{begun_facts, committed_facts, given_up_facts, sealed_facts};
+ghost use Rattle.txn_laws.specs.log_model.declared.entry.Act.TheVariants.{Commit};
+ghost use Rattle.txn_laws.specs.txn_model.Appending.{MayAppend};
+ghost use Rattle.txn_laws.specs.txn_model.Pieces.{next_entry};
+ghost use Rattle.txn_laws.specs.txn_model.Calls.{begun_facts, committed_facts, given_up_facts, sealed_facts};
 ghost use Rattle.txn_state.specs.States.{facts_of};
 ghost use Rattle.txn_laws.specs.Windows.{AfterBegin, AfterCommit, AfterGiveUp, AfterWrite};
 ghost use Rattle.txn_core.specs.Seen.{TakesStep};
 
 use crate::store::Store;
-use sector_device::Device;
+use txn_laws::Device;
 
 impl<D: Device> Store<D> {
     /// Begins a transaction, where none is open, and answers its number. There are fewer than 2^32

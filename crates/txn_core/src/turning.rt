@@ -6,9 +6,8 @@ ghost use Rattle.txn_core.specs.Seen.{TakesStep};
 ghost use Rattle.txn_core.specs.Steps.{MayTurn, HasTurned, TurnsDevice, AfterTurn};
 
 use crate::store::Store;
-use flush_policy::StoreStep;
 use host_base::Failed;
-use sector_device::Device;
+use txn_laws::{Device, StoreStep};
 
 impl<D: Device> Store<D> {
     /// Takes a step of the store, as [`flush_policy::next_step`] chooses it: the call that has its

@@ -1,18 +1,16 @@
 //! The present content of a store as a view.
 ghost use Rattle.std.specs.Prelude.{◌≡◌, ◌*◌, ◌≤◌, length, OnOk, IfSome};
-ghost use Rattle.disk_model.specs.Sectors.{sectors};
+ghost use Rattle.device_blocks.specs.disk_model.Sectors.{sectors};
 ghost use Rattle.host_base.specs.Causes.{FailsByCause};
-ghost use Rattle.device_view.specs.Devices.{IsHeld, KeepsDevice, failures};
+ghost use Rattle.device_blocks.specs.device_view.Devices.{IsHeld, KeepsDevice, failures};
 ghost use Rattle.txn_state.specs.States.{facts_of};
 ghost use Rattle.txn_core.specs.Sizes.{sized_present};
 ghost use Rattle.txn_core.specs.Views.{present_on, present_content, KeepsSizes, BorrowedStore, borrowed_store, KeepsStore};
 
 use crate::store::Store;
-use block_view::{View, ViewFault};
-use device_view::ReadAhead;
-use disk_model::{Block, Body};
+use device_blocks::{Block, Body, ReadAhead};
 use host_base::Failed;
-use sector_device::{Device, LAST_MOMENT};
+use txn_laws::{Device, LAST_MOMENT, View, ViewFault};
 use txn_state::StoreState;
 
 // The present body of a block.

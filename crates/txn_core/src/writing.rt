@@ -1,10 +1,10 @@
 //! Blocks are written out.
 ghost use Rattle.std.specs.Prelude.{◌≡◌, ◌≤◌, true, Some, is_some};
-ghost use Rattle.disk_model.specs.declared.block.Body.{Body};
-ghost use Rattle.disk_model.specs.Sectors.{are_rivals};
+ghost use Rattle.device_blocks.specs.disk_model.declared.block.Body.{Body};
+ghost use Rattle.device_blocks.specs.disk_model.Sectors.{are_rivals};
 ghost use Rattle.host_base.specs.Causes.{FailsByCause};
-ghost use Rattle.block_pool.specs.Pools.{held};
-ghost use Rattle.txn_model.specs.Calls.{is_ready};
+ghost use Rattle.txn_laws.specs.block_pool.Pools.{held};
+ghost use Rattle.txn_laws.specs.txn_model.Calls.{is_ready};
 ghost use Rattle.txn_state.specs.States.{facts_of};
 ghost use Rattle.txn_laws.specs.Windows.{MovesTo};
 ghost use Rattle.device_blocks.specs.Words.{IsFitWord};
@@ -12,12 +12,9 @@ ghost use Rattle.txn_core.specs.Calls.{is_spelled, out_facts, out_words, failed_
 ghost use Rattle.txn_core.specs.Seen.{word_of, TakesStep};
 
 use crate::store::Store;
-use block_pool::Pool;
-use device_blocks::{CheckWord, write_again, write_body};
-use disk_model::Block;
-use fixup_record::has_spelling;
+use device_blocks::{Block, CheckWord, has_spelling, write_again, write_body};
 use host_base::Failed;
-use sector_device::Device;
+use txn_laws::{Device, Pool};
 use txn_state::StoreState;
 
 // Whether the body that is kept of a block has a spelling.

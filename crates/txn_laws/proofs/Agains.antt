@@ -3,31 +3,31 @@ use Rattle.std.proofs.Common.{◌≡◌, subst, ℕ, suc, ◌+◌, ◌*◌, ◌<
 use Rattle.std.specs.Prelude.{◌&&◌, ◌||◌, is_some, IfSome}
 use Rattle.std.proofs.lemmas.Bool.{cases_Bool}
 use Rattle.host_base.specs.declared.outside.Failed.{Failed}
-use Rattle.disk_model.specs.declared.block.Block.{Block}
-use Rattle.disk_model.specs.declared.block.Body.{Body}
-use Rattle.disk_model.specs.Sectors.{sector_of, sectors, same_block}
-use Rattle.disk_model.proofs.Frames.{same_block-is}
-use Rattle.fixup_record.specs.Spellings.{has_spelling}
-use Rattle.sector_device.specs.Disks.{Disk, IsSized, IsBetween, SeesDisk, put, seen, is_within}
-use Rattle.sector_device.specs.Moments.{Changes}
-use Rattle.sector_device.specs.Sectors.{sectors_of}
-use Rattle.sector_device.specs.WholeSectors.{length-sectors_of}
-use Rattle.sector_device.proofs.Images.{known_after_write}
-use Rattle.store_model.specs.Stores.{Store}
-use Rattle.store_model.specs.Events.{StandsAs}
-use Rattle.store_model.specs.Events.Step.{write_again}
-use Rattle.store_model.specs.Volumes.{is_known, sectors_from}
-use Rattle.store_model.proofs.Told.{true≢false, same_self}
-use Rattle.store_model.proofs.Known.{is_in}
-use Rattle.store_model.proofs.Devices.{again_is}
-use Rattle.store_model.proofs.Sound.{sound-step}
-use Rattle.ring_laws.specs.Numbers.{LogSession}
-use Rattle.ring_laws.specs.PageBytes.{page_sector, AreAlike}
-use Rattle.ring_laws.specs.StoreDisks.{disk_without}
-use Rattle.ring_laws.specs.StoreLogs.{LogNumbers}
-use Rattle.ring_laws.proofs.LogSectors.{kept_elsewhere}
-use Rattle.ring_laws.proofs.SeenDisks.{not_own, without_again}
-use Rattle.ring_laws.proofs.StoreEvents.{log_kept}
+use Rattle.area_laws.specs.disk_model.declared.block.Block.{Block}
+use Rattle.area_laws.specs.disk_model.declared.block.Body.{Body}
+use Rattle.area_laws.specs.disk_model.Sectors.{sector_of, sectors, same_block}
+use Rattle.area_laws.proofs.disk_model.Frames.{same_block-is}
+use Rattle.area_laws.specs.fixup_record.Spellings.{has_spelling}
+use Rattle.area_laws.specs.sector_device.Disks.{Disk, IsSized, IsBetween, SeesDisk, put, seen, is_within}
+use Rattle.area_laws.specs.sector_device.Moments.{Changes}
+use Rattle.area_laws.specs.sector_device.Sectors.{sectors_of}
+use Rattle.area_laws.specs.sector_device.WholeSectors.{length-sectors_of}
+use Rattle.area_laws.proofs.sector_device.Images.{known_after_write}
+use Rattle.store_claims.specs.store_model.Stores.{Store}
+use Rattle.store_claims.specs.store_model.Events.{StandsAs}
+use Rattle.store_claims.specs.store_model.Events.Step.{write_again}
+use Rattle.store_claims.specs.store_model.Volumes.{is_known, sectors_from}
+use Rattle.store_claims.proofs.store_model.Told.{true≢false, same_self}
+use Rattle.store_claims.proofs.store_model.Known.{is_in}
+use Rattle.store_claims.proofs.store_model.Devices.{again_is}
+use Rattle.store_claims.proofs.store_model.Sound.{sound-step}
+use Rattle.area_laws.specs.ring_laws.Numbers.{LogSession}
+use Rattle.area_laws.specs.ring_laws.PageBytes.{page_sector, AreAlike}
+use Rattle.area_laws.specs.ring_laws.StoreDisks.{disk_without}
+use Rattle.area_laws.specs.ring_laws.StoreLogs.{LogNumbers}
+use Rattle.area_laws.proofs.ring_laws.LogSectors.{kept_elsewhere}
+use Rattle.area_laws.proofs.ring_laws.SeenDisks.{not_own, without_again}
+use Rattle.area_laws.proofs.ring_laws.StoreEvents.{log_kept}
 use Rattle.area_laws.proofs.Joined.{stays}
 use Rattle.txn_model.specs.declared.mark.Mark.{Mark}
 use Rattle.txn_model.specs.Values.{StoreFacts, own_of}

@@ -4,23 +4,23 @@ use Rattle.std.specs.Prelude.{◌||◌, slice_index, slice_set}
 use Rattle.std.proofs.Math.Nat.{mod-lt}
 use Rattle.std.proofs.lemmas.Bool.{cases_lt}
 use Rattle.std.proofs.lemmas.List.{get_or-set_same, get_or-set_other}
-use Rattle.disk_model.specs.declared.block.Block.{Block}
-use Rattle.sector_device.specs.Disks.{Disk}
-use Rattle.log_model.specs.declared.entry.Entry.{Entry}
-use Rattle.log_model.specs.Logs.{updates}
-use Rattle.log_model.specs.Entries.{entry_size}
-use Rattle.log_area.specs.Areas.{LogAreaOf, next_lsn, place_at, appended, sent_word}
-use Rattle.store_model.specs.Logs.{commits, has_update, IsOusted}
-use Rattle.store_model.specs.Stores.{Store}
-use Rattle.store_model.specs.Rings.{Ring, Restarts, entries_on}
-use Rattle.store_model.proofs.Told.{or-false, commits-append}
-use Rattle.store_model.proofs.Lost.{has_update-append, has_none, ousted_more}
-use Rattle.ring_laws.specs.Numbers.{LogSession, ring_size}
-use Rattle.ring_laws.specs.RestartPages.{RestartFields}
-use Rattle.ring_laws.specs.RingPages.{fixed_to}
-use Rattle.ring_laws.specs.StoreLogs.{LogNumbers, HoldsLog, LogBecomes, stays_to}
-use Rattle.ring_laws.proofs.Numbering.{has_places}
-use Rattle.ring_laws.proofs.StoreEvents.{log_grows}
+use Rattle.area_laws.specs.disk_model.declared.block.Block.{Block}
+use Rattle.area_laws.specs.sector_device.Disks.{Disk}
+use Rattle.area_laws.specs.log_model.declared.entry.Entry.{Entry}
+use Rattle.area_laws.specs.log_model.Logs.{updates}
+use Rattle.area_laws.specs.log_model.Entries.{entry_size}
+use Rattle.area_laws.specs.log_area.Areas.{LogAreaOf, next_lsn, place_at, appended, sent_word}
+use Rattle.store_claims.specs.store_model.Logs.{commits, has_update, IsOusted}
+use Rattle.store_claims.specs.store_model.Stores.{Store}
+use Rattle.store_claims.specs.store_model.Rings.{Ring, Restarts, entries_on}
+use Rattle.store_claims.proofs.store_model.Told.{or-false, commits-append}
+use Rattle.store_claims.proofs.store_model.Lost.{has_update-append, has_none, ousted_more}
+use Rattle.area_laws.specs.ring_laws.Numbers.{LogSession, ring_size}
+use Rattle.area_laws.specs.ring_laws.RestartPages.{RestartFields}
+use Rattle.area_laws.specs.ring_laws.RingPages.{fixed_to}
+use Rattle.area_laws.specs.ring_laws.StoreLogs.{LogNumbers, HoldsLog, LogBecomes, stays_to}
+use Rattle.area_laws.proofs.ring_laws.Numbering.{has_places}
+use Rattle.area_laws.proofs.ring_laws.StoreEvents.{log_grows}
 use Rattle.area_laws.specs.Standing.{Stands, pages_with}
 use Rattle.area_laws.proofs.Joined.{appends}
 use Rattle.txn_model.specs.Appending.{MayAppend}

@@ -2,18 +2,18 @@
 use Rattle.std.proofs.Common.{◌≡◌, ◌≢◌, ◌⊎◌, subst, ℕ, suc, ◌+◌, ◌<◌, ◌≤◌, Bool, true, false, List, [], ◌∷◌, ◌++◌, length, map, get_or, refl, sym, ap, ◌∙◌, inl, inr, arith}
 use Rattle.std.specs.Prelude.{◌||◌, slice_set}
 use Rattle.std.proofs.lemmas.List.{append-nil, append_assoc, length-set}
-use Rattle.disk_model.specs.declared.block.Block.{Block}
-use Rattle.sector_device.specs.Disks.{Disk}
-use Rattle.log_model.specs.declared.entry.Entry.{Entry}
-use Rattle.log_model.specs.Logs.{updates}
-use Rattle.log_area.specs.Areas.{LogAreaOf, place_at, appended, sent_word}
-use Rattle.store_model.specs.Logs.{has_update}
-use Rattle.store_model.specs.Stores.{Store}
-use Rattle.store_model.specs.Rings.{Ring, Restarts, entries_on}
-use Rattle.store_model.proofs.Told.{or_left, or_right}
-use Rattle.ring_laws.specs.Numbers.{LogSession, ring_size}
-use Rattle.ring_laws.specs.RestartPages.{RestartFields}
-use Rattle.ring_laws.specs.StoreLogs.{HoldsLog}
+use Rattle.area_laws.specs.disk_model.declared.block.Block.{Block}
+use Rattle.area_laws.specs.sector_device.Disks.{Disk}
+use Rattle.area_laws.specs.log_model.declared.entry.Entry.{Entry}
+use Rattle.area_laws.specs.log_model.Logs.{updates}
+use Rattle.area_laws.specs.log_area.Areas.{LogAreaOf, place_at, appended, sent_word}
+use Rattle.store_claims.specs.store_model.Logs.{has_update}
+use Rattle.store_claims.specs.store_model.Stores.{Store}
+use Rattle.store_claims.specs.store_model.Rings.{Ring, Restarts, entries_on}
+use Rattle.store_claims.proofs.store_model.Told.{or_left, or_right}
+use Rattle.area_laws.specs.ring_laws.Numbers.{LogSession, ring_size}
+use Rattle.area_laws.specs.ring_laws.RestartPages.{RestartFields}
+use Rattle.area_laws.specs.ring_laws.StoreLogs.{HoldsLog}
 use Rattle.area_laws.specs.Standing.{Stands, pages_with}
 use Rattle.txn_model.specs.Pieces.{Piece, update_of_piece, next_entry, entries_of, log_with, ends_with}
 use Rattle.txn_model.specs.Appending.{MayAppendAll}

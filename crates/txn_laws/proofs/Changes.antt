@@ -6,49 +6,49 @@ use Rattle.std.proofs.lemmas.Bool.{cases_Bool, cases_lt}
 use Rattle.std.proofs.lemmas.List.{ext_get_or, drop-append-le, take_all}
 use Rattle.std.specs.Option.{option_or}
 use mathlib.Core.Path.{fun_ext}
-use Rattle.disk_model.specs.declared.block.Block.{Block}
-use Rattle.disk_model.specs.declared.block.Body.{Body}
-use Rattle.disk_model.specs.declared.block.BlockKind.{BlockKind}
-use Rattle.disk_model.specs.declared.block.BlockKind.TheVariants.{Plain, FileRec, Index}
-use Rattle.disk_model.specs.Bytes.{written}
-use Rattle.disk_model.specs.Sectors.{sector_of, sectors, same_block, are_rivals}
-use Rattle.disk_model.specs.Content.{content_of}
-use Rattle.disk_model.proofs.Frames.{same_block-is, length-written, written_before, written_behind}
-use Rattle.fixup_record.specs.Spellings.{has_spelling}
-use Rattle.sector_device.specs.Disks.{Disk, IsSized, MayHold, SeesDisk, seen}
-use Rattle.sector_device.proofs.Images.{holds_seen}
-use Rattle.log_model.specs.declared.entry.Entry.{Entry}
-use Rattle.log_model.specs.Logs.{is_misplaced, updates, updates_rival, act_says, first_undo, last_said}
-use Rattle.log_model.proofs.Telling.{first_undo-append, last_said-append}
-use Rattle.log_area.specs.Areas.{LogAreaOf}
-use Rattle.store_model.specs.Logs.{BodyBytes, AllBytes, AreUpdates, undone, has_update, ended_with, IsOusted}
-use Rattle.store_model.specs.Geometry.{SectorBytes}
-use Rattle.store_model.specs.Stores.{Window, Store}
-use Rattle.store_model.specs.Events.{after_change, after_changes, AreChanges, Fills, Refills, MayChange, changed_store, Step}
-use Rattle.store_model.specs.Events.Step.{change}
-use Rattle.store_model.specs.Rings.{entries_on}
-use Rattle.store_model.specs.Volumes.{is_known, first_bytes, AreWhole}
+use Rattle.area_laws.specs.disk_model.declared.block.Block.{Block}
+use Rattle.area_laws.specs.disk_model.declared.block.Body.{Body}
+use Rattle.area_laws.specs.disk_model.declared.block.BlockKind.{BlockKind}
+use Rattle.area_laws.specs.disk_model.declared.block.BlockKind.TheVariants.{Plain, FileRec, Index}
+use Rattle.area_laws.specs.disk_model.Bytes.{written}
+use Rattle.area_laws.specs.disk_model.Sectors.{sector_of, sectors, same_block, are_rivals}
+use Rattle.area_laws.specs.disk_model.Content.{content_of}
+use Rattle.area_laws.proofs.disk_model.Frames.{same_block-is, length-written, written_before, written_behind}
+use Rattle.area_laws.specs.fixup_record.Spellings.{has_spelling}
+use Rattle.area_laws.specs.sector_device.Disks.{Disk, IsSized, MayHold, SeesDisk, seen}
+use Rattle.area_laws.proofs.sector_device.Images.{holds_seen}
+use Rattle.area_laws.specs.log_model.declared.entry.Entry.{Entry}
+use Rattle.area_laws.specs.log_model.Logs.{is_misplaced, updates, updates_rival, act_says, first_undo, last_said}
+use Rattle.area_laws.proofs.log_model.Telling.{first_undo-append, last_said-append}
+use Rattle.area_laws.specs.log_area.Areas.{LogAreaOf}
+use Rattle.store_claims.specs.store_model.Logs.{BodyBytes, AllBytes, AreUpdates, undone, has_update, ended_with, IsOusted}
+use Rattle.store_claims.specs.store_model.Geometry.{SectorBytes}
+use Rattle.store_claims.specs.store_model.Stores.{Window, Store}
+use Rattle.store_claims.specs.store_model.Events.{after_change, after_changes, AreChanges, Fills, Refills, MayChange, changed_store, Step}
+use Rattle.store_claims.specs.store_model.Events.Step.{change}
+use Rattle.store_claims.specs.store_model.Rings.{entries_on}
+use Rattle.store_claims.specs.store_model.Volumes.{is_known, first_bytes, AreWhole}
 use Rattle.store_claims.specs.Windows.{store_window}
-use Rattle.store_model.proofs.Told.{true≢false, all_append, or_left, or_right, or-true, or-false, ends_own, same_self, rivals_both, rivals_other, rival_apart, updates_is, rival_is}
-use Rattle.store_model.proofs.Lost.{has_update-append, updates_only, updates_some, ousted_now}
-use Rattle.store_model.proofs.Pieces.{are_updates, ends-updates, body_elsewhere, draft_changes, changes_same}
-use Rattle.store_model.proofs.Volumes.{length-first_bytes, first_at, content_size, size_known}
-use Rattle.store_model.proofs.Sound.{sound-step}
-use Rattle.store_model.proofs.Moving.{windows_move_law}
-use Rattle.ring_laws.specs.Numbers.{LogSession}
-use Rattle.ring_laws.proofs.SeenDisks.{without_seen, without_content}
-use Rattle.ring_laws.proofs.StoreEvents.{log_kept}
+use Rattle.store_claims.proofs.store_model.Told.{true≢false, all_append, or_left, or_right, or-true, or-false, ends_own, same_self, rivals_both, rivals_other, rival_apart, updates_is, rival_is}
+use Rattle.store_claims.proofs.store_model.Lost.{has_update-append, updates_only, updates_some, ousted_now}
+use Rattle.store_claims.proofs.store_model.Pieces.{are_updates, ends-updates, body_elsewhere, draft_changes, changes_same}
+use Rattle.store_claims.proofs.store_model.Volumes.{length-first_bytes, first_at, content_size, size_known}
+use Rattle.store_claims.proofs.store_model.Sound.{sound-step}
+use Rattle.store_claims.proofs.store_model.Moving.{windows_move_law}
+use Rattle.area_laws.specs.ring_laws.Numbers.{LogSession}
+use Rattle.area_laws.proofs.ring_laws.SeenDisks.{without_seen, without_content}
+use Rattle.area_laws.proofs.ring_laws.StoreEvents.{log_kept}
 use Rattle.txn_model.specs.declared.mark.Mark.{Mark}
 use Rattle.txn_model.specs.Values.{StoreFacts, own_of}
 use Rattle.txn_model.specs.Pieces.{Piece, logged_pieces, update_of_piece, entries_of}
 use Rattle.txn_model.specs.Calls.{body_before, changed_mark, rival_mark, change_acts, changed_facts}
 use Rattle.txn_model.specs.Appending.{MayAppendAll}
-use Rattle.log_area.specs.declared.restart.SentRestart.{SentRestart}
+use Rattle.area_laws.specs.log_area.declared.restart.SentRestart.{SentRestart}
 use Rattle.txn_laws.specs.Standing.{HasBytes, IsMarked, IsImaged, IsKilled, CloseNone, StandsBehindAs, StandsBehind, session_of, numbers_of}
 use Rattle.txn_laws.specs.Windows.{Simulates, AfterChange}
 use Rattle.txn_laws.specs.Laws.{MayChangeBlock}
 use Rattle.txn_laws.proofs.Telling.{in_memory}
-use Rattle.sector_device.specs.Moments.{Changes}
+use Rattle.area_laws.specs.sector_device.Moments.{Changes}
 use Rattle.txn_laws.proofs.Memory.{undone_none}
 use Rattle.txn_laws.proofs.Growing.{all_dropped}
 use Rattle.txn_laws.proofs.Cutting.{IsPiece, cut_within, Has, cut_has, cut_some, are_changes, stays_after, gets_after, has_undo}

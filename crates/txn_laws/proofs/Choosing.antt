@@ -1,14 +1,14 @@
 -- The next step of a store may be taken.
 use Rattle.std.proofs.Common.{◌≡◌, ℕ, ◌≤◌, Bool, true, false, cond, List, [], ◌∷◌, length, Option, Some, None, refl, sym, ap, ◌∙◌, subst, arith}
 use Rattle.std.specs.Prelude.{◌&&◌, ◌||◌, not, nat_le, IfSome, is_some}
-use Rattle.disk_model.specs.declared.block.Block.{Block}
-use Rattle.store_model.proofs.Told.{true≢false}
-use Rattle.flush_policy.specs.declared.facts.Facts.{Facts}
-use Rattle.flush_policy.specs.declared.facts.StoreStep.{StoreStep}
-use Rattle.flush_policy.specs.declared.facts.StoreStep.TheVariants.{SealPage, WritePage, SyncDevice, WriteOut, BeginCheckpoint, WriteRestart}
-use Rattle.flush_policy.specs.Choice.{next_step}
-use Rattle.flush_policy.specs.Steps.{MayTake}
-use Rattle.flush_policy.proofs.Steps.{may_be_taken}
+use Rattle.area_laws.specs.disk_model.declared.block.Block.{Block}
+use Rattle.store_claims.proofs.store_model.Told.{true≢false}
+use Rattle.txn_model.specs.flush_policy.declared.facts.Facts.{Facts}
+use Rattle.txn_model.specs.flush_policy.declared.facts.StoreStep.{StoreStep}
+use Rattle.txn_model.specs.flush_policy.declared.facts.StoreStep.TheVariants.{SealPage, WritePage, SyncDevice, WriteOut, BeginCheckpoint, WriteRestart}
+use Rattle.txn_model.specs.flush_policy.Choice.{next_step}
+use Rattle.txn_model.specs.flush_policy.Steps.{MayTake}
+use Rattle.txn_model.proofs.flush_policy.Steps.{may_be_taken}
 use Rattle.txn_model.specs.Values.{StoreFacts}
 use Rattle.txn_model.specs.Told.{AreLeft, FactsTold, KeepsSteps, MayTakeStep}
 use Rattle.txn_laws.proofs.Syncs.{and_left}

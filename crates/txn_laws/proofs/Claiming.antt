@@ -1,26 +1,26 @@
 -- What a store's steps make of its claims, and what its images recover to where they claim.
 use Rattle.std.proofs.Common.{◌≡◌, ℕ, Bool, true, false, List, length, refl, sym, ◌∙◌, ap, ap₂, subst}
 use mathlib.Core.Path.{fun_ext}
-use Rattle.disk_model.specs.declared.block.Block.{Block}
-use Rattle.disk_model.specs.Content.{content_of}
-use Rattle.fixup_record.specs.Spellings.{has_spelling}
-use Rattle.log_model.specs.declared.entry.Entry.{Entry}
-use Rattle.log_model.specs.Logs.{is_shadowed, is_other, is_written_out}
-use Rattle.store_model.specs.Geometry.{SectorBytes, Geometry}
-use Rattle.store_model.specs.Stores.{Window, Store, member, list_of, IsSound}
-use Rattle.store_model.specs.Volumes.{is_known, content_with, IsVolume, AreWhole, RecoversToContent}
-use Rattle.store_model.specs.Events.{after_begin, checkpoint_begun}
-use Rattle.store_model.specs.Events.Step.{begin, begin_checkpoint}
+use Rattle.area_laws.specs.disk_model.declared.block.Block.{Block}
+use Rattle.area_laws.specs.disk_model.Content.{content_of}
+use Rattle.area_laws.specs.fixup_record.Spellings.{has_spelling}
+use Rattle.area_laws.specs.log_model.declared.entry.Entry.{Entry}
+use Rattle.area_laws.specs.log_model.Logs.{is_shadowed, is_other, is_written_out}
+use Rattle.store_claims.specs.store_model.Geometry.{SectorBytes, Geometry}
+use Rattle.store_claims.specs.store_model.Stores.{Window, Store, member, list_of, IsSound}
+use Rattle.store_claims.specs.store_model.Volumes.{is_known, content_with, IsVolume, AreWhole, RecoversToContent}
+use Rattle.store_claims.specs.store_model.Events.{after_begin, checkpoint_begun}
+use Rattle.store_claims.specs.store_model.Events.Step.{begin, begin_checkpoint}
 use Rattle.store_claims.specs.Claims.{claims, will, ClaimWindow, claims_of, commits_behind}
 use Rattle.store_claims.specs.Moves.{ClaimsStay}
 use Rattle.store_claims.specs.Laws.{RecoversClaimed}
 use Rattle.store_claims.specs.Windows.{StoreWindow, store_window}
 use Rattle.store_claims.proofs.Moving.{claims_move}
 use Rattle.store_claims.proofs.Recovering.{claimed_recovers}
-use Rattle.ring_laws.specs.Numbers.{LogSession}
-use Rattle.ring_laws.specs.StoreDisks.{sectors_without}
-use Rattle.ring_laws.specs.StoreLogs.{LogNumbers, LogIsLeft}
-use Rattle.ring_laws.proofs.SeenDisks.{other_same, written_same, without_content, without_whole, without_recovered}
+use Rattle.area_laws.specs.ring_laws.Numbers.{LogSession}
+use Rattle.area_laws.specs.ring_laws.StoreDisks.{sectors_without}
+use Rattle.area_laws.specs.ring_laws.StoreLogs.{LogNumbers, LogIsLeft}
+use Rattle.area_laws.proofs.ring_laws.SeenDisks.{other_same, written_same, without_content, without_whole, without_recovered}
 use Rattle.txn_laws.specs.Windows.{AfterBegin, AfterWrite}
 
 -- ---- steps

@@ -1,18 +1,18 @@
 -- Restart pages that say that the log is closed: no entry stands behind them.
 use Rattle.std.proofs.Common.{◌≡◌, ◌≢◌, subst, ℕ, zero, suc, ◌+◌, ◌-◌, ◌≤◌, Bool, true, false, cond, List, [], ◌∷◌, length, take, drop, Option, Some, None, refl, sym, ap, ◌∙◌, inl, inr, arith}
 use Rattle.std.specs.Prelude.{IfSome}
-use Rattle.sector_device.specs.Disks.{Disk}
-use Rattle.log_model.specs.declared.entry.Entry.{Entry}
-use Rattle.log_model.specs.declared.entry.Act.{Act}
-use Rattle.log_page.specs.declared.restart.Restart.{Restart}
-use Rattle.log_page.specs.Restarts.{is_clean}
-use Rattle.log_area.specs.declared.restart.SentRestart.{SentRestart}
-use Rattle.log_area.specs.Areas.{LogAreaOf, appended, naming_page, page_to_send}
-use Rattle.store_model.specs.Stores.{Store, Image, list_of}
-use Rattle.store_model.specs.Rings.{PagePlaces, Restarts, entries_on, synced_places}
-use Rattle.store_model.proofs.Told.{true≢false}
-use Rattle.ring_laws.specs.RestartPages.{RestartFields, restart_written, restart_sent, restart_synced}
-use Rattle.ring_laws.specs.StoreLogs.{IsOfLog}
+use Rattle.area_laws.specs.sector_device.Disks.{Disk}
+use Rattle.area_laws.specs.log_model.declared.entry.Entry.{Entry}
+use Rattle.area_laws.specs.log_model.declared.entry.Act.{Act}
+use Rattle.area_laws.specs.log_page.declared.restart.Restart.{Restart}
+use Rattle.area_laws.specs.log_page.Restarts.{is_clean}
+use Rattle.area_laws.specs.log_area.declared.restart.SentRestart.{SentRestart}
+use Rattle.area_laws.specs.log_area.Areas.{LogAreaOf, appended, naming_page, page_to_send}
+use Rattle.store_claims.specs.store_model.Stores.{Store, Image, list_of}
+use Rattle.store_claims.specs.store_model.Rings.{PagePlaces, Restarts, entries_on, synced_places}
+use Rattle.store_claims.proofs.store_model.Told.{true≢false}
+use Rattle.area_laws.specs.ring_laws.RestartPages.{RestartFields, restart_written, restart_sent, restart_synced}
+use Rattle.area_laws.specs.ring_laws.StoreLogs.{IsOfLog}
 use Rattle.txn_model.specs.Values.{StoreFacts}
 use Rattle.txn_model.specs.Pieces.{next_entry, log_with}
 use Rattle.txn_model.specs.Told.{pages_end}

@@ -3,24 +3,24 @@ use Rattle.std.proofs.Common.{◌≡◌, subst, ℕ, zero, suc, ◌+◌, ◌-◌
 use Rattle.std.specs.Prelude.{◌&&◌, ◌||◌, is_some, slice_set}
 use Rattle.std.proofs.lemmas.Bool.{cases_Bool}
 use Rattle.std.proofs.lemmas.List.{drop-append-le, length-set}
-use Rattle.disk_model.specs.declared.block.Block.{Block}
-use Rattle.sector_device.specs.Disks.{Disk}
-use Rattle.log_model.specs.declared.entry.Entry.{Entry}
-use Rattle.log_model.specs.declared.entry.Act.TheVariants.{Commit}
-use Rattle.log_model.specs.Logs.{is_ended, is_misplaced, last_said}
-use Rattle.log_model.proofs.Telling.{last_said-append}
-use Rattle.log_area.specs.Areas.{next_lsn, place_at, appended}
-use Rattle.store_model.specs.Logs.{commit_by, has_update}
-use Rattle.store_model.specs.Geometry.{Geometry}
-use Rattle.store_model.specs.Stores.{Window, Store, Tells}
-use Rattle.store_model.specs.Events.{after_commit}
-use Rattle.store_model.specs.Events.Step.{commit}
+use Rattle.area_laws.specs.disk_model.declared.block.Block.{Block}
+use Rattle.area_laws.specs.sector_device.Disks.{Disk}
+use Rattle.area_laws.specs.log_model.declared.entry.Entry.{Entry}
+use Rattle.area_laws.specs.log_model.declared.entry.Act.TheVariants.{Commit}
+use Rattle.area_laws.specs.log_model.Logs.{is_ended, is_misplaced, last_said}
+use Rattle.area_laws.proofs.log_model.Telling.{last_said-append}
+use Rattle.area_laws.specs.log_area.Areas.{next_lsn, place_at, appended}
+use Rattle.store_claims.specs.store_model.Logs.{commit_by, has_update}
+use Rattle.store_claims.specs.store_model.Geometry.{Geometry}
+use Rattle.store_claims.specs.store_model.Stores.{Window, Store, Tells}
+use Rattle.store_claims.specs.store_model.Events.{after_commit}
+use Rattle.store_claims.specs.store_model.Events.Step.{commit}
 use Rattle.store_claims.specs.Windows.{store_window}
-use Rattle.store_model.proofs.Told.{true≢false, all_append, ends-commit, said_unnamed, names_more, apart}
-use Rattle.store_model.proofs.Lost.{has_update-append}
-use Rattle.store_model.proofs.Sound.{sound-step}
-use Rattle.store_model.proofs.Moving.{windows_move_law}
-use Rattle.ring_laws.specs.Numbers.{LogSession}
+use Rattle.store_claims.proofs.store_model.Told.{true≢false, all_append, ends-commit, said_unnamed, names_more, apart}
+use Rattle.store_claims.proofs.store_model.Lost.{has_update-append}
+use Rattle.store_claims.proofs.store_model.Sound.{sound-step}
+use Rattle.store_claims.proofs.store_model.Moving.{windows_move_law}
+use Rattle.area_laws.specs.ring_laws.Numbers.{LogSession}
 use Rattle.area_laws.specs.Standing.{pages_with}
 use Rattle.txn_model.specs.declared.mark.Mark.{Mark}
 use Rattle.txn_model.specs.Values.{StoreFacts}

@@ -3,14 +3,14 @@ use Rattle.std.proofs.Common.{◌≡◌, ℕ, ◌+◌, ◌<◌, ◌≤◌, Bool,
 use Rattle.std.specs.Prelude.{◌==◌, ◌&&◌, ◌||◌, not, nat_le, count_by, is_some}
 use Rattle.std.proofs.lemmas.Bool.{cases_Bool, eq-eqb, and_from, le-leb}
 use Rattle.std.proofs.lemmas.List.Sums.{sum_by-cons}
-use Rattle.disk_model.specs.declared.block.Block.{Block}
-use Rattle.disk_model.specs.declared.block.BlockKind.{BlockKind}
-use Rattle.disk_model.specs.declared.block.BlockKind.TheVariants.{Plain, FileRec, Index}
-use Rattle.disk_model.specs.Sectors.{same_block, same_kind}
-use Rattle.disk_model.proofs.Frames.{same_block-is}
-use Rattle.store_model.proofs.Told.{true≢false}
-use Rattle.flush_policy.specs.declared.facts.Facts.{Facts}
-use Rattle.flush_policy.specs.Steps.{IsSynced, CanBe}
+use Rattle.area_laws.specs.disk_model.declared.block.Block.{Block}
+use Rattle.area_laws.specs.disk_model.declared.block.BlockKind.{BlockKind}
+use Rattle.area_laws.specs.disk_model.declared.block.BlockKind.TheVariants.{Plain, FileRec, Index}
+use Rattle.area_laws.specs.disk_model.Sectors.{same_block, same_kind}
+use Rattle.area_laws.proofs.disk_model.Frames.{same_block-is}
+use Rattle.store_claims.proofs.store_model.Told.{true≢false}
+use Rattle.txn_model.specs.flush_policy.declared.facts.Facts.{Facts}
+use Rattle.txn_model.specs.flush_policy.Steps.{IsSynced, CanBe}
 use Rattle.txn_model.specs.Values.{StoreFacts}
 use Rattle.txn_model.specs.Calls.{is_ready}
 use Rattle.txn_model.specs.Told.{is_left, pages_end, AreDirty, FactsTold, KeepsMarked}

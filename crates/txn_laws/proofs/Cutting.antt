@@ -4,22 +4,22 @@ use Rattle.std.specs.Prelude.{◌&&◌, nat_le, nat_lt, slice_index, unwrap_or}
 use Rattle.std.specs.List.{AllByRecursion}
 use Rattle.std.proofs.lemmas.Bool.{cases_Bool, cases_lt, eq-eqb, ne_eqb, lt-ltb, le-leb, leb-true, ltb-true}
 use Rattle.std.proofs.lemmas.List.{length-take-le, length-drop, get_or-take, get_or-drop}
-use Rattle.disk_model.specs.declared.block.Block.{Block}
-use Rattle.disk_model.specs.declared.block.BlockKind.{BlockKind}
-use Rattle.disk_model.specs.declared.block.BlockKind.TheVariants.{Plain, FileRec, Index}
-use Rattle.disk_model.specs.Bytes.{part}
-use Rattle.disk_model.specs.Sectors.{same_block}
-use Rattle.disk_model.proofs.Frames.{same_block-is}
-use Rattle.block_pool.specs.Numbers.{kind_number}
-use Rattle.log_model.specs.declared.entry.Entry.{Entry}
-use Rattle.log_model.specs.declared.entry.Act.{Act}
-use Rattle.log_model.specs.Logs.{kind_of, block_of_kind, covers, redo_byte, undo_byte, first_undo}
-use Rattle.log_area.specs.Areas.{LogAreaOf, appended}
-use Rattle.store_model.specs.Logs.{AllBytes, undone, changed}
-use Rattle.store_model.specs.Stores.{Window}
-use Rattle.store_model.specs.Events.{after_change, after_changes, IsChange, AreChanges}
-use Rattle.store_model.proofs.Told.{true≢false, same_self}
-use Rattle.store_model.proofs.Window.{window-change}
+use Rattle.area_laws.specs.disk_model.declared.block.Block.{Block}
+use Rattle.area_laws.specs.disk_model.declared.block.BlockKind.{BlockKind}
+use Rattle.area_laws.specs.disk_model.declared.block.BlockKind.TheVariants.{Plain, FileRec, Index}
+use Rattle.area_laws.specs.disk_model.Bytes.{part}
+use Rattle.area_laws.specs.disk_model.Sectors.{same_block}
+use Rattle.area_laws.proofs.disk_model.Frames.{same_block-is}
+use Rattle.txn_model.specs.block_pool.Numbers.{kind_number}
+use Rattle.area_laws.specs.log_model.declared.entry.Entry.{Entry}
+use Rattle.area_laws.specs.log_model.declared.entry.Act.{Act}
+use Rattle.area_laws.specs.log_model.Logs.{kind_of, block_of_kind, covers, redo_byte, undo_byte, first_undo}
+use Rattle.area_laws.specs.log_area.Areas.{LogAreaOf, appended}
+use Rattle.store_claims.specs.store_model.Logs.{AllBytes, undone, changed}
+use Rattle.store_claims.specs.store_model.Stores.{Window}
+use Rattle.store_claims.specs.store_model.Events.{after_change, after_changes, IsChange, AreChanges}
+use Rattle.store_claims.proofs.store_model.Told.{true≢false, same_self}
+use Rattle.store_claims.proofs.store_model.Window.{window-change}
 use Rattle.txn_model.specs.Pieces.{Piece, cut, update_of_piece, next_entry, entries_of}
 
 -- ---- pieces

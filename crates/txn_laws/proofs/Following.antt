@@ -2,15 +2,15 @@
 use Rattle.std.proofs.Common.{◌≡◌, subst, ℕ, suc, ◌+◌, ◌-◌, ◌≤◌, Bool, true, false, List, refl, sym, ap, ◌∙◌, inl, inr, arith}
 use Rattle.std.specs.Prelude.{◌||◌}
 use Rattle.std.proofs.lemmas.Bool.{cases_lt}
-use Rattle.disk_model.specs.declared.block.Block.{Block}
-use Rattle.log_page.specs.declared.places.LogPlace.{LogPlace}
-use Rattle.store_model.specs.Geometry.{SectorBytes}
-use Rattle.store_model.specs.Volumes.{IsRecovered}
+use Rattle.area_laws.specs.disk_model.declared.block.Block.{Block}
+use Rattle.area_laws.specs.log_page.declared.places.LogPlace.{LogPlace}
+use Rattle.store_claims.specs.store_model.Geometry.{SectorBytes}
+use Rattle.store_claims.specs.store_model.Volumes.{IsRecovered}
 use Rattle.store_claims.specs.Windows.{StoreWindow}
-use Rattle.disk_model.specs.declared.block.Body.{Body}
-use Rattle.disk_model.specs.Content.{Content}
-use Rattle.log_model.specs.declared.entry.Entry.{Entry}
-use Rattle.store_model.proofs.Told.{or_left, or_right}
+use Rattle.area_laws.specs.disk_model.declared.block.Body.{Body}
+use Rattle.area_laws.specs.disk_model.Content.{Content}
+use Rattle.area_laws.specs.log_model.declared.entry.Entry.{Entry}
+use Rattle.store_claims.proofs.store_model.Told.{or_left, or_right}
 use Rattle.txn_laws.specs.Windows.{RecoversWithin, AfterBegin, AfterCommit, AfterWrite}
 use Rattle.txn_laws.specs.Following.{Follows, RecoversSince, WindowsFollow}
 

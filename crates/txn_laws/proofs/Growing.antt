@@ -2,13 +2,13 @@
 use Rattle.std.proofs.Common.{◌≡◌, ℕ, zero, suc, ◌+◌, ◌-◌, ◌<◌, ◌≤◌, Bool, cond, List, [], ◌∷◌, ◌++◌, length, take, drop, get_or, set, refl, sym, ap, ◌∙◌, subst, inl, inr, arith}
 use Rattle.std.proofs.lemmas.Bool.{eq-eqb, ne_eqb}
 use Rattle.std.proofs.lemmas.List.{append-nil, append_assoc}
-use Rattle.log_model.specs.declared.entry.Entry.{Entry}
-use Rattle.log_model.specs.Entries.{entry_size}
-use Rattle.log_page.proofs.Readings.{size_some}
-use Rattle.store_model.specs.Rings.{Ring, entries_on}
-use Rattle.sector_device.specs.Disks.{Disk}
-use Rattle.ring_laws.specs.Numbers.{LogSession}
-use Rattle.log_area.specs.Areas.{LogAreaOf, next_number, next_at, used_pages, appended}
+use Rattle.area_laws.specs.log_model.declared.entry.Entry.{Entry}
+use Rattle.area_laws.specs.log_model.Entries.{entry_size}
+use Rattle.area_laws.proofs.log_page.Readings.{size_some}
+use Rattle.store_claims.specs.store_model.Rings.{Ring, entries_on}
+use Rattle.area_laws.specs.sector_device.Disks.{Disk}
+use Rattle.area_laws.specs.ring_laws.Numbers.{LogSession}
+use Rattle.area_laws.specs.log_area.Areas.{LogAreaOf, next_number, next_at, used_pages, appended}
 use Rattle.area_laws.specs.Standing.{StandsRing, pages_with}
 use Rattle.area_laws.proofs.Keeps.{IsPlaced, small_entry, is_placed, filling_then}
 use Rattle.txn_model.specs.Appending.{MayAppend}

@@ -5,26 +5,26 @@ use Rattle.std.proofs.Math.Nat.{mod-lt, div-mul-le_self}
 use Rattle.std.proofs.lemmas.Nat.{le-div}
 use Rattle.std.proofs.lemmas.Bool.{cases_Bool}
 use Rattle.std.proofs.lemmas.Bool.Decides.{nat_tests}
-use Rattle.disk_model.specs.Sectors.{sector_of}
-use Rattle.sector_device.specs.Disks.{Disk, MayLeave}
-use Rattle.sector_device.specs.Moments.{Changes, MayLeaveNow}
-use Rattle.log_page.specs.declared.restart.Restart.{Restart}
-use Rattle.log_page.specs.Places.{place_bits, lap_of}
-use Rattle.log_page.specs.Restarts.{is_newer}
-use Rattle.log_page.proofs.PlacesFit.{log_fits}
-use Rattle.log_reading.specs.Fronts.{chosen_in}
-use Rattle.log_area.specs.declared.restart.SentRestart.{SentRestart}
-use Rattle.log_area.specs.Areas.{LogAreaOf, IsLogArea, ring_size, lap_at, next_number, next_at, next_lsn, sent_word}
-use Rattle.log_area.proofs.Numbering.{next_inside}
-use Rattle.store_model.specs.Rings.{Restarts}
-use Rattle.store_model.specs.Stores.{Store}
+use Rattle.area_laws.specs.disk_model.Sectors.{sector_of}
+use Rattle.area_laws.specs.sector_device.Disks.{Disk, MayLeave}
+use Rattle.area_laws.specs.sector_device.Moments.{Changes, MayLeaveNow}
+use Rattle.area_laws.specs.log_page.declared.restart.Restart.{Restart}
+use Rattle.area_laws.specs.log_page.Places.{place_bits, lap_of}
+use Rattle.area_laws.specs.log_page.Restarts.{is_newer}
+use Rattle.area_laws.proofs.log_page.PlacesFit.{log_fits}
+use Rattle.area_laws.specs.log_reading.Fronts.{chosen_in}
+use Rattle.area_laws.specs.log_area.declared.restart.SentRestart.{SentRestart}
+use Rattle.area_laws.specs.log_area.Areas.{LogAreaOf, IsLogArea, ring_size, lap_at, next_number, next_at, next_lsn, sent_word}
+use Rattle.area_laws.proofs.log_area.Numbering.{next_inside}
+use Rattle.store_claims.specs.store_model.Rings.{Restarts}
+use Rattle.store_claims.specs.store_model.Stores.{Store}
 use Rattle.store_claims.specs.Windows.{StoreWindow}
-use Rattle.store_model.proofs.Told.{true≢false}
-use Rattle.ring_laws.specs.Numbers.{LogSession, lap_of_page}
-use Rattle.ring_laws.specs.PageBytes.{raw_page}
-use Rattle.ring_laws.specs.RestartPages.{RestartFields, IsBelow}
-use Rattle.ring_laws.proofs.RingFacts.{laps_climb}
-use Rattle.ring_laws.proofs.RingReads.{lap_is_next}
+use Rattle.store_claims.proofs.store_model.Told.{true≢false}
+use Rattle.area_laws.specs.ring_laws.Numbers.{LogSession, lap_of_page}
+use Rattle.area_laws.specs.ring_laws.PageBytes.{raw_page}
+use Rattle.area_laws.specs.ring_laws.RestartPages.{RestartFields, IsBelow}
+use Rattle.area_laws.proofs.ring_laws.RingFacts.{laps_climb}
+use Rattle.area_laws.proofs.ring_laws.RingReads.{lap_is_next}
 use Rattle.area_laws.specs.Standing.{IsOlder, StandsRestarts}
 use Rattle.area_laws.proofs.Entries.{lap_in_page}
 use Rattle.area_laws.proofs.Reading.{is_read}

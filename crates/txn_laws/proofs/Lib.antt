@@ -1,3 +1,10 @@
+pub use Rattle.area_laws.proofs as area_laws
+pub use Rattle.area_laws.proofs.log_laws
+pub use Rattle.area_laws.proofs.log_page
+pub use Rattle.area_laws.proofs.ring_laws
+pub use Rattle.store_claims.proofs.store_model
+pub use Rattle.txn_model.proofs.block_pool
+pub use Rattle.txn_model.proofs.flush_policy
 pub mod Claiming
 pub mod Closed
 pub mod Telling

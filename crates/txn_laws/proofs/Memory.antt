@@ -4,27 +4,27 @@ use Rattle.std.specs.Prelude.{◌&&◌, ◌||◌, is_some, IfSome, unwrap_or}
 use Rattle.std.specs.Option.{option_or}
 use Rattle.std.proofs.lemmas.Bool.{cases_Bool}
 use mathlib.Core.Path.{fun_ext}
-use Rattle.disk_model.specs.declared.block.Block.{Block}
-use Rattle.disk_model.specs.declared.block.Body.{Body}
-use Rattle.disk_model.specs.Sectors.{sectors}
-use Rattle.sector_device.specs.Disks.{Disk}
-use Rattle.log_model.specs.declared.entry.Entry.{Entry}
-use Rattle.log_area.specs.Areas.{LogAreaOf, is_filling, sealed_area, sent_word}
-use Rattle.log_area.specs.declared.restart.SentRestart.{SentRestart}
-use Rattle.store_model.specs.Logs.{BodyBytes, undone, has_update}
-use Rattle.store_model.specs.Geometry.{Geometry}
-use Rattle.store_model.specs.Stores.{Window, Store, Tells}
-use Rattle.store_model.specs.Events.{after_begin, after_give_up, given_up}
-use Rattle.store_model.specs.Events.Step.{begin, give_up}
-use Rattle.store_model.specs.Volumes.{is_known, first_bytes}
+use Rattle.area_laws.specs.disk_model.declared.block.Block.{Block}
+use Rattle.area_laws.specs.disk_model.declared.block.Body.{Body}
+use Rattle.area_laws.specs.disk_model.Sectors.{sectors}
+use Rattle.area_laws.specs.sector_device.Disks.{Disk}
+use Rattle.area_laws.specs.log_model.declared.entry.Entry.{Entry}
+use Rattle.area_laws.specs.log_area.Areas.{LogAreaOf, is_filling, sealed_area, sent_word}
+use Rattle.area_laws.specs.log_area.declared.restart.SentRestart.{SentRestart}
+use Rattle.store_claims.specs.store_model.Logs.{BodyBytes, undone, has_update}
+use Rattle.store_claims.specs.store_model.Geometry.{Geometry}
+use Rattle.store_claims.specs.store_model.Stores.{Window, Store, Tells}
+use Rattle.store_claims.specs.store_model.Events.{after_begin, after_give_up, given_up}
+use Rattle.store_claims.specs.store_model.Events.Step.{begin, give_up}
+use Rattle.store_claims.specs.store_model.Volumes.{is_known, first_bytes}
 use Rattle.store_claims.specs.Windows.{store_window}
-use Rattle.store_model.proofs.Told.{true≢false, or_right}
-use Rattle.store_model.proofs.Lost.{none_covered, said_unmine, unnamed_by}
-use Rattle.store_model.proofs.Sound.{sound-step}
-use Rattle.store_model.proofs.Moving.{windows_move_law}
+use Rattle.store_claims.proofs.store_model.Told.{true≢false, or_right}
+use Rattle.store_claims.proofs.store_model.Lost.{none_covered, said_unmine, unnamed_by}
+use Rattle.store_claims.proofs.store_model.Sound.{sound-step}
+use Rattle.store_claims.proofs.store_model.Moving.{windows_move_law}
 use Rattle.store_claims.proofs.Moving.{claims_move}
-use Rattle.ring_laws.proofs.StoreEvents.{log_kept}
-use Rattle.ring_laws.specs.StoreLogs.{HoldsLog}
+use Rattle.area_laws.proofs.ring_laws.StoreEvents.{log_kept}
+use Rattle.area_laws.specs.ring_laws.StoreLogs.{HoldsLog}
 use Rattle.area_laws.proofs.Joined.{seals}
 use Rattle.txn_model.specs.declared.mark.Mark.{Mark}
 use Rattle.txn_model.specs.Values.{StoreFacts, own_of}

@@ -3,21 +3,21 @@ use Rattle.std.proofs.Common.{◌≡◌, ◌≢◌, subst, ℕ, suc, ◌+◌, �
 use Rattle.std.specs.Prelude.{◌||◌, find, IfSome, option_map}
 use Rattle.std.specs.List.{AllByRecursion}
 use Rattle.std.proofs.lemmas.Bool.{lt-leb, le-ltb}
-use Rattle.disk_model.specs.declared.block.Block.{Block}
-use Rattle.disk_model.specs.declared.block.BlockKind.{BlockKind}
-use Rattle.disk_model.specs.Bytes.{part}
-use Rattle.disk_model.specs.Sectors.{sectors}
-use Rattle.block_pool.specs.Numbers.{kind_number}
-use Rattle.log_model.specs.declared.entry.Entry.{Entry}
-use Rattle.log_model.specs.declared.entry.Act.TheVariants.{Commit}
-use Rattle.log_model.specs.Logs.{kind_of, is_misplaced, first_misplaced}
-use Rattle.log_page.specs.declared.restart.Restart.{Restart}
-use Rattle.log_page.specs.Restarts.{FitsRestart}
-use Rattle.log_area.specs.declared.restart.SentRestart.{SentRestart}
-use Rattle.log_area.specs.Areas.{LogAreaOf, IsLogArea, IsSpelled, appended, naming_page, page_to_send}
-use Rattle.store_model.specs.Rings.{PagePlaces, Restarts, AreRestarts, synced_places}
-use Rattle.store_model.proofs.Told.{true≢false}
-use Rattle.ring_laws.specs.RestartPages.{RestartFields, restart_written, restart_sent, restart_synced}
+use Rattle.area_laws.specs.disk_model.declared.block.Block.{Block}
+use Rattle.area_laws.specs.disk_model.declared.block.BlockKind.{BlockKind}
+use Rattle.area_laws.specs.disk_model.Bytes.{part}
+use Rattle.area_laws.specs.disk_model.Sectors.{sectors}
+use Rattle.txn_model.specs.block_pool.Numbers.{kind_number}
+use Rattle.area_laws.specs.log_model.declared.entry.Entry.{Entry}
+use Rattle.area_laws.specs.log_model.declared.entry.Act.TheVariants.{Commit}
+use Rattle.area_laws.specs.log_model.Logs.{kind_of, is_misplaced, first_misplaced}
+use Rattle.area_laws.specs.log_page.declared.restart.Restart.{Restart}
+use Rattle.area_laws.specs.log_page.Restarts.{FitsRestart}
+use Rattle.area_laws.specs.log_area.declared.restart.SentRestart.{SentRestart}
+use Rattle.area_laws.specs.log_area.Areas.{LogAreaOf, IsLogArea, IsSpelled, appended, naming_page, page_to_send}
+use Rattle.store_claims.specs.store_model.Rings.{PagePlaces, Restarts, AreRestarts, synced_places}
+use Rattle.store_claims.proofs.store_model.Told.{true≢false}
+use Rattle.area_laws.specs.ring_laws.RestartPages.{RestartFields, restart_written, restart_sent, restart_synced}
 use Rattle.txn_model.specs.Pieces.{Piece, update_of_piece, next_entry, entries_of}
 use Rattle.txn_laws.specs.Standing.{AreOwnPages, ArePlaced}
 use Rattle.txn_laws.proofs.Cutting.{IsPiece, length-part, same_kind_of}

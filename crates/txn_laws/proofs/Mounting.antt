@@ -4,43 +4,43 @@ use Rattle.std.specs.Prelude.{Contains, ◌&&◌, ◌||◌, not, All, nat_eq, sl
 use Rattle.std.specs.Cmp.Lexicographic.{pointwise}
 use Rattle.std.proofs.lemmas.Bool.{cases_Bool, eqb-true}
 use Rattle.std.proofs.lemmas.List.{ext_get_or}
-use Rattle.disk_model.specs.declared.block.Block.{Block}
-use Rattle.disk_model.specs.declared.block.BlockKind.{BlockKind}
-use Rattle.disk_model.specs.declared.block.BlockKind.TheVariants.{Plain, FileRec, Index}
-use Rattle.disk_model.specs.Sectors.{sectors, same_block, are_rivals}
-use Rattle.disk_model.specs.Content.{Content, content_of}
-use Rattle.disk_model.specs.declared.block.Body.{Body}
-use Rattle.disk_model.proofs.Frames.{same_block-is, raw_frame}
-use Rattle.fixup_record.specs.Spellings.{has_spelling, spelled}
-use Rattle.sector_device.specs.Disks.{Disk, IsBetween, IsSettled, IsSized, is_within, newest, seen, settled, put}
-use Rattle.sector_device.specs.Sectors.{sectors_of}
-use Rattle.sector_device.specs.WholeSectors.{length-sectors_of}
-use Rattle.log_model.specs.declared.entry.Entry.{Entry}
-use Rattle.log_model.specs.Logs.{IsLevel, is_ended, is_shadowed, is_covered_whole, is_other, is_written_out, recovered, told}
-use Rattle.log_model.proofs.Recovering.{recovered_at, length-recovered, torn_after}
-use Rattle.log_model.proofs.Telling.{silent, silent_rest}
-use Rattle.store_model.specs.Logs.{IsClaimed, has_update}
-use Rattle.store_model.specs.Geometry.{SectorBytes, Geometry, CanLeave}
-use Rattle.store_model.specs.Stores.{Restores, Window}
-use Rattle.store_model.specs.Recovery.{Recovering, IsWhole, MayRestore, recovering}
-use Rattle.store_model.specs.Recovery.Recovers.{restore, settle}
-use Rattle.store_model.specs.Volumes.{is_known, first_bytes, sectors_from, bytes_in, AreWhole, RecoversToContent, BearsContent}
-use Rattle.store_model.proofs.Told.{true≢false, rivals_both}
-use Rattle.store_model.proofs.Lost.{none_covered}
-use Rattle.store_model.proofs.Known.{within_is, is_in, own_content}
-use Rattle.store_model.proofs.Volumes.{volume_geometry, is_volume, length-first_bytes, first_at, content_size, size_known, known_sized, claimed_is, recovered_bytes}
-use Rattle.store_model.proofs.Recovery.{Keeps, keeps-step, one_claimed}
-use Rattle.store_model.proofs.Writes.{words_agree_law}
-use Rattle.store_model.proofs.Devices.{torn_is, put_is, spells_body, settled_bears}
-use Rattle.ring_laws.specs.StoreDisks.{disk_without, sectors_without}
-use Rattle.ring_laws.specs.PageBytes.{page_sector, raw_page, IsStill, AreAlike}
-use Rattle.ring_laws.proofs.LogSectors.{kept_elsewhere}
-use Rattle.ring_laws.proofs.SeenDisks.{not_own, without_left, without_content, without_seen, without_recovered, without_whole, without_bears, without_synced, without_failed}
+use Rattle.area_laws.specs.disk_model.declared.block.Block.{Block}
+use Rattle.area_laws.specs.disk_model.declared.block.BlockKind.{BlockKind}
+use Rattle.area_laws.specs.disk_model.declared.block.BlockKind.TheVariants.{Plain, FileRec, Index}
+use Rattle.area_laws.specs.disk_model.Sectors.{sectors, same_block, are_rivals}
+use Rattle.area_laws.specs.disk_model.Content.{Content, content_of}
+use Rattle.area_laws.specs.disk_model.declared.block.Body.{Body}
+use Rattle.area_laws.proofs.disk_model.Frames.{same_block-is, raw_frame}
+use Rattle.area_laws.specs.fixup_record.Spellings.{has_spelling, spelled}
+use Rattle.area_laws.specs.sector_device.Disks.{Disk, IsBetween, IsSettled, IsSized, is_within, newest, seen, settled, put}
+use Rattle.area_laws.specs.sector_device.Sectors.{sectors_of}
+use Rattle.area_laws.specs.sector_device.WholeSectors.{length-sectors_of}
+use Rattle.area_laws.specs.log_model.declared.entry.Entry.{Entry}
+use Rattle.area_laws.specs.log_model.Logs.{IsLevel, is_ended, is_shadowed, is_covered_whole, is_other, is_written_out, recovered, told}
+use Rattle.area_laws.proofs.log_model.Recovering.{recovered_at, length-recovered, torn_after}
+use Rattle.area_laws.proofs.log_model.Telling.{silent, silent_rest}
+use Rattle.store_claims.specs.store_model.Logs.{IsClaimed, has_update}
+use Rattle.store_claims.specs.store_model.Geometry.{SectorBytes, Geometry, CanLeave}
+use Rattle.store_claims.specs.store_model.Stores.{Restores, Window}
+use Rattle.store_claims.specs.store_model.Recovery.{Recovering, IsWhole, MayRestore, recovering}
+use Rattle.store_claims.specs.store_model.Recovery.Recovers.{restore, settle}
+use Rattle.store_claims.specs.store_model.Volumes.{is_known, first_bytes, sectors_from, bytes_in, AreWhole, RecoversToContent, BearsContent}
+use Rattle.store_claims.proofs.store_model.Told.{true≢false, rivals_both}
+use Rattle.store_claims.proofs.store_model.Lost.{none_covered}
+use Rattle.store_claims.proofs.store_model.Known.{within_is, is_in, own_content}
+use Rattle.store_claims.proofs.store_model.Volumes.{volume_geometry, is_volume, length-first_bytes, first_at, content_size, size_known, known_sized, claimed_is, recovered_bytes}
+use Rattle.store_claims.proofs.store_model.Recovery.{Keeps, keeps-step, one_claimed}
+use Rattle.store_claims.proofs.store_model.Writes.{words_agree_law}
+use Rattle.store_claims.proofs.store_model.Devices.{torn_is, put_is, spells_body, settled_bears}
+use Rattle.area_laws.specs.ring_laws.StoreDisks.{disk_without, sectors_without}
+use Rattle.area_laws.specs.ring_laws.PageBytes.{page_sector, raw_page, IsStill, AreAlike}
+use Rattle.area_laws.proofs.ring_laws.LogSectors.{kept_elsewhere}
+use Rattle.area_laws.proofs.ring_laws.SeenDisks.{not_own, without_left, without_content, without_seen, without_recovered, without_whole, without_bears, without_synced, without_failed}
 use Rattle.txn_laws.specs.Mounting.{StandsAt, IsMounting, HasMounted, MayPutBack, MountsGoOn, put_back}
 use Rattle.txn_model.specs.Values.{StoreFacts, is_own, own_of}
 use Rattle.txn_laws.specs.Windows.{HasStart}
-use Rattle.sector_device.specs.Moments.{Changes}
-use Rattle.log_page.specs.declared.places.LogPlace.{LogPlace}
+use Rattle.area_laws.specs.sector_device.Moments.{Changes}
+use Rattle.area_laws.specs.log_page.declared.places.LogPlace.{LogPlace}
 use Rattle.txn_laws.proofs.Changes.{seen_whole}
 use Rattle.txn_laws.proofs.PageWrites.{page_is_own}
 use Rattle.txn_laws.proofs.Syncs.{and_left, and_right}

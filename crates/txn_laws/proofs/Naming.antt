@@ -5,33 +5,33 @@ use Rattle.std.specs.Option.{option_map}
 use Rattle.std.proofs.lemmas.Bool.{cases_Bool}
 use Rattle.std.proofs.Math.Nat.{div-lt_iff_lt-mul, lt-mul-div-succ}
 use Rattle.host_base.specs.declared.outside.Failed.{Failed}
-use Rattle.disk_model.specs.declared.block.Block.{Block}
-use Rattle.fixup_record.specs.Protecting.{protected_bytes}
-use Rattle.fixup_record.proofs.Protected.{length-protected}
-use Rattle.sector_device.specs.Disks.{Disk, IsSized, IsBetween, IsTornDisk, SeesDisk, is_within, put}
-use Rattle.sector_device.specs.Moments.{Changes}
-use Rattle.sector_device.specs.Sectors.{sectors_of}
-use Rattle.sector_device.specs.WholeSectors.{length-sectors_of}
-use Rattle.log_page.specs.declared.restart.Restart.{Restart}
-use Rattle.log_page.specs.Places.{sequence_bits}
-use Rattle.log_page.specs.Restarts.{restart_spelling}
-use Rattle.log_page.proofs.Spelled.{length-restart_spelling}
-use Rattle.log_area.specs.declared.restart.SentRestart.{SentRestart}
-use Rattle.log_area.specs.Areas.{IsOldest, lap_at, next_number, ring_size, restart_sector, sent_word, page_to_send, named_area}
-use Rattle.log_area.specs.Calls.{sending_moment}
-use Rattle.log_area.proofs.Numbering.{lsn_room}
-use Rattle.store_model.specs.Stores.{Store}
-use Rattle.store_model.specs.Events.{MayRename}
-use Rattle.store_model.specs.Events.Step.{write_restart, write_restart_fails}
-use Rattle.store_model.specs.Rings.{PagePlaces}
-use Rattle.store_model.proofs.Rings.{entries_longer}
-use Rattle.store_model.proofs.Sound.{sound-step}
-use Rattle.store_model.proofs.Told.{true≢false}
-use Rattle.ring_laws.specs.Numbers.{LogSession, lsn_of_page}
-use Rattle.ring_laws.specs.PageBytes.{page_sector}
-use Rattle.ring_laws.specs.RestartPages.{RestartFields, restart_written, restart_sent}
-use Rattle.ring_laws.specs.StoreDisks.{disk_without}
-use Rattle.ring_laws.proofs.SeenDisks.{own_put}
+use Rattle.area_laws.specs.disk_model.declared.block.Block.{Block}
+use Rattle.area_laws.specs.fixup_record.Protecting.{protected_bytes}
+use Rattle.area_laws.proofs.fixup_record.Protected.{length-protected}
+use Rattle.area_laws.specs.sector_device.Disks.{Disk, IsSized, IsBetween, IsTornDisk, SeesDisk, is_within, put}
+use Rattle.area_laws.specs.sector_device.Moments.{Changes}
+use Rattle.area_laws.specs.sector_device.Sectors.{sectors_of}
+use Rattle.area_laws.specs.sector_device.WholeSectors.{length-sectors_of}
+use Rattle.area_laws.specs.log_page.declared.restart.Restart.{Restart}
+use Rattle.area_laws.specs.log_page.Places.{sequence_bits}
+use Rattle.area_laws.specs.log_page.Restarts.{restart_spelling}
+use Rattle.area_laws.proofs.log_page.Spelled.{length-restart_spelling}
+use Rattle.area_laws.specs.log_area.declared.restart.SentRestart.{SentRestart}
+use Rattle.area_laws.specs.log_area.Areas.{IsOldest, lap_at, next_number, ring_size, restart_sector, sent_word, page_to_send, named_area}
+use Rattle.area_laws.specs.log_area.Calls.{sending_moment}
+use Rattle.area_laws.proofs.log_area.Numbering.{lsn_room}
+use Rattle.store_claims.specs.store_model.Stores.{Store}
+use Rattle.store_claims.specs.store_model.Events.{MayRename}
+use Rattle.store_claims.specs.store_model.Events.Step.{write_restart, write_restart_fails}
+use Rattle.store_claims.specs.store_model.Rings.{PagePlaces}
+use Rattle.store_claims.proofs.store_model.Rings.{entries_longer}
+use Rattle.store_claims.proofs.store_model.Sound.{sound-step}
+use Rattle.store_claims.proofs.store_model.Told.{true≢false}
+use Rattle.area_laws.specs.ring_laws.Numbers.{LogSession, lsn_of_page}
+use Rattle.area_laws.specs.ring_laws.PageBytes.{page_sector}
+use Rattle.area_laws.specs.ring_laws.RestartPages.{RestartFields, restart_written, restart_sent}
+use Rattle.area_laws.specs.ring_laws.StoreDisks.{disk_without}
+use Rattle.area_laws.proofs.ring_laws.SeenDisks.{own_put}
 use Rattle.area_laws.specs.Standing.{Stands}
 use Rattle.area_laws.specs.Laws.{IsKnown, MayName}
 use Rattle.area_laws.proofs.Calling.{torn_known, whole_between}

@@ -2,16 +2,16 @@
 use Rattle.std.proofs.Common.{◌≡◌, ℕ, ◌+◌, ◌-◌, Bool, true, false, cond, length, Option, None, refl, sym, ap, ◌∙◌, inl, inr, arith}
 use Rattle.std.specs.Prelude.{◌||◌, is_some}
 use Rattle.std.proofs.lemmas.Bool.{cases_Bool}
-use Rattle.disk_model.specs.declared.block.Block.{Block}
-use Rattle.sector_device.specs.Disks.{Disk}
-use Rattle.log_area.specs.Areas.{LogAreaOf, is_filling, used_pages, sealed_area}
-use Rattle.store_model.specs.Stores.{Store}
-use Rattle.store_model.specs.Events.{checkpoint_begun}
-use Rattle.store_model.specs.Events.Step.{begin_checkpoint}
+use Rattle.area_laws.specs.disk_model.declared.block.Block.{Block}
+use Rattle.area_laws.specs.sector_device.Disks.{Disk}
+use Rattle.area_laws.specs.log_area.Areas.{LogAreaOf, is_filling, used_pages, sealed_area}
+use Rattle.store_claims.specs.store_model.Stores.{Store}
+use Rattle.store_claims.specs.store_model.Events.{checkpoint_begun}
+use Rattle.store_claims.specs.store_model.Events.Step.{begin_checkpoint}
 use Rattle.store_claims.specs.Windows.{store_window}
-use Rattle.store_model.proofs.Told.{true≢false, or-true}
-use Rattle.store_model.proofs.Sound.{sound-step}
-use Rattle.ring_laws.proofs.StoreEvents.{log_noted}
+use Rattle.store_claims.proofs.store_model.Told.{true≢false, or-true}
+use Rattle.store_claims.proofs.store_model.Sound.{sound-step}
+use Rattle.area_laws.proofs.ring_laws.StoreEvents.{log_noted}
 use Rattle.txn_model.specs.declared.mark.Mark.{Mark}
 use Rattle.txn_model.specs.Values.{StoreFacts}
 use Rattle.txn_model.specs.Calls.{noted_facts, sealed_facts}

@@ -2,15 +2,15 @@
 use Rattle.std.proofs.Common.{◌≡◌, subst, ℕ, zero, suc, ◌-◌, false, List, [], drop, Option, Some, Ok, refl, sym, ap, ◌∙◌}
 use Rattle.std.specs.Prelude.{IfSome}
 use Rattle.std.specs.Option.{option_map}
-use Rattle.disk_model.specs.declared.block.Block.{Block}
-use Rattle.sector_device.specs.Disks.{Disk, IsSized, SeesDisk, settled}
-use Rattle.sector_device.specs.Moments.{Changes}
-use Rattle.log_model.specs.declared.entry.Entry.{Entry}
-use Rattle.log_page.specs.declared.places.LogPlace.{LogPlace}
-use Rattle.log_area.specs.Areas.{LogAreaOf, new_area, number_of, page_to_send, named_area}
-use Rattle.store_model.specs.Rings.{Ring, Restarts, synced_places}
-use Rattle.ring_laws.specs.Numbers.{LogSession, lsn_of_page}
-use Rattle.ring_laws.specs.RestartPages.{RestartFields, restart_written, restart_synced}
+use Rattle.area_laws.specs.disk_model.declared.block.Block.{Block}
+use Rattle.area_laws.specs.sector_device.Disks.{Disk, IsSized, SeesDisk, settled}
+use Rattle.area_laws.specs.sector_device.Moments.{Changes}
+use Rattle.area_laws.specs.log_model.declared.entry.Entry.{Entry}
+use Rattle.area_laws.specs.log_page.declared.places.LogPlace.{LogPlace}
+use Rattle.area_laws.specs.log_area.Areas.{LogAreaOf, new_area, number_of, page_to_send, named_area}
+use Rattle.store_claims.specs.store_model.Rings.{Ring, Restarts, synced_places}
+use Rattle.area_laws.specs.ring_laws.Numbers.{LogSession, lsn_of_page}
+use Rattle.area_laws.specs.ring_laws.RestartPages.{RestartFields, restart_written, restart_synced}
 use Rattle.area_laws.specs.Standing.{Stands, freed_to}
 use Rattle.area_laws.specs.Laws.{IsKnown, SendsRestart, MayName}
 use Rattle.area_laws.proofs.Joined.{syncs_all}

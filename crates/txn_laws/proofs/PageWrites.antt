@@ -7,32 +7,32 @@ use Rattle.std.proofs.lemmas.List.Folds.{list_any_at}
 use Rattle.std.proofs.lemmas.List.FromFn.{length-range_with_len, get_or-range_with_len}
 use Rattle.host_base.specs.declared.outside.Failed.{Failed}
 use Rattle.host_base.specs.Causes.{last_moment}
-use Rattle.disk_model.specs.declared.block.Block.{Block}
-use Rattle.disk_model.specs.Sectors.{sectors}
-use Rattle.fixup_record.proofs.Protected.{length-protected}
-use Rattle.sector_device.specs.Disks.{Disk, IsSized, IsBetween, SeesDisk, is_within, put}
-use Rattle.sector_device.specs.Moments.{Changes, moment_after}
-use Rattle.sector_device.specs.Sectors.{sectors_of}
-use Rattle.sector_device.specs.WholeSectors.{length-sectors_of}
-use Rattle.log_page.specs.declared.places.LogPlace.{LogPlace}
-use Rattle.log_page.specs.PageSpellings.{page_spelling}
-use Rattle.log_page.proofs.PageAgain.{page_size}
-use Rattle.store_model.specs.Stores.{Store}
-use Rattle.store_model.specs.Events.Step.{write_page, write_page_fails}
-use Rattle.store_model.specs.Rings.{PagePlaces}
-use Rattle.store_model.proofs.Rings.{entries_longer}
-use Rattle.store_model.proofs.Sound.{sound-step}
-use Rattle.ring_laws.specs.Numbers.{LogSession, place_of_page, lap_of_page}
-use Rattle.ring_laws.specs.PageBytes.{page_sector, spelled_page}
-use Rattle.ring_laws.specs.RingPages.{entries_of_page, page_written, page_sent}
-use Rattle.ring_laws.specs.StoreDisks.{disk_without}
-use Rattle.ring_laws.specs.StoreLogs.{LogNumbers, entries_to}
-use Rattle.ring_laws.proofs.Numbering.{in_ring}
-use Rattle.ring_laws.proofs.RingFacts.{has_ring}
-use Rattle.ring_laws.proofs.SeenDisks.{own_put}
-use Rattle.ring_laws.proofs.StoreEvents.{log_within}
-use Rattle.log_area.specs.Areas.{page_first, written_area}
-use Rattle.log_area.specs.Calls.{sending_moment}
+use Rattle.area_laws.specs.disk_model.declared.block.Block.{Block}
+use Rattle.area_laws.specs.disk_model.Sectors.{sectors}
+use Rattle.area_laws.proofs.fixup_record.Protected.{length-protected}
+use Rattle.area_laws.specs.sector_device.Disks.{Disk, IsSized, IsBetween, SeesDisk, is_within, put}
+use Rattle.area_laws.specs.sector_device.Moments.{Changes, moment_after}
+use Rattle.area_laws.specs.sector_device.Sectors.{sectors_of}
+use Rattle.area_laws.specs.sector_device.WholeSectors.{length-sectors_of}
+use Rattle.area_laws.specs.log_page.declared.places.LogPlace.{LogPlace}
+use Rattle.area_laws.specs.log_page.PageSpellings.{page_spelling}
+use Rattle.area_laws.proofs.log_page.PageAgain.{page_size}
+use Rattle.store_claims.specs.store_model.Stores.{Store}
+use Rattle.store_claims.specs.store_model.Events.Step.{write_page, write_page_fails}
+use Rattle.store_claims.specs.store_model.Rings.{PagePlaces}
+use Rattle.store_claims.proofs.store_model.Rings.{entries_longer}
+use Rattle.store_claims.proofs.store_model.Sound.{sound-step}
+use Rattle.area_laws.specs.ring_laws.Numbers.{LogSession, place_of_page, lap_of_page}
+use Rattle.area_laws.specs.ring_laws.PageBytes.{page_sector, spelled_page}
+use Rattle.area_laws.specs.ring_laws.RingPages.{entries_of_page, page_written, page_sent}
+use Rattle.area_laws.specs.ring_laws.StoreDisks.{disk_without}
+use Rattle.area_laws.specs.ring_laws.StoreLogs.{LogNumbers, entries_to}
+use Rattle.area_laws.proofs.ring_laws.Numbering.{in_ring}
+use Rattle.area_laws.proofs.ring_laws.RingFacts.{has_ring}
+use Rattle.area_laws.proofs.ring_laws.SeenDisks.{own_put}
+use Rattle.area_laws.proofs.ring_laws.StoreEvents.{log_within}
+use Rattle.area_laws.specs.log_area.Areas.{page_first, written_area}
+use Rattle.area_laws.specs.log_area.Calls.{sending_moment}
 use Rattle.area_laws.specs.Standing.{Stands}
 use Rattle.area_laws.specs.Laws.{IsKnown, SendsNext}
 use Rattle.area_laws.proofs.Calling.{held_here, ring_writes, ring_sends}

@@ -5,12 +5,12 @@ use Rattle.std.specs.List.{list_any, range_with_len}
 use Rattle.std.proofs.lemmas.Bool.{cases_lt, eqb-true, ltb-true}
 use Rattle.std.proofs.lemmas.List.Folds.{list_any_at}
 use Rattle.std.proofs.lemmas.List.FromFn.{length-map-range_with_len, get_or-map-range_with_len}
-use Rattle.disk_model.specs.declared.block.Block.{Block}
-use Rattle.disk_model.specs.declared.block.BlockKind.{BlockKind}
-use Rattle.disk_model.specs.declared.block.BlockKind.TheVariants.{Plain, FileRec, Index}
-use Rattle.disk_model.specs.Sectors.{are_rivals}
-use Rattle.log_model.specs.Logs.{may_begin, is_in_grid}
-use Rattle.store_model.proofs.Told.{true≢false}
+use Rattle.area_laws.specs.disk_model.declared.block.Block.{Block}
+use Rattle.area_laws.specs.disk_model.declared.block.BlockKind.{BlockKind}
+use Rattle.area_laws.specs.disk_model.declared.block.BlockKind.TheVariants.{Plain, FileRec, Index}
+use Rattle.area_laws.specs.disk_model.Sectors.{are_rivals}
+use Rattle.area_laws.specs.log_model.Logs.{may_begin, is_in_grid}
+use Rattle.store_claims.proofs.store_model.Told.{true≢false}
 use Rattle.txn_model.specs.Calls.{plain_at, record_at, index_at, rivals_of}
 use Rattle.txn_laws.proofs.Syncs.{and_left, and_right}
 

@@ -2,22 +2,22 @@
 use Rattle.std.proofs.Common.{◌≡◌, subst, ℕ, ◌+◌, ◌-◌, ◌/◌, ◌≤◌, true, Bool, List, Option, Some, None, refl, sym, ap₂, arith}
 use Rattle.std.specs.Prelude.{IfSome, unwrap_or}
 use mathlib.Core.Path.{fun_ext}
-use Rattle.disk_model.specs.declared.block.Block.{Block}
-use Rattle.disk_model.specs.Sectors.{sector_of}
-use Rattle.disk_model.specs.Content.{content_of}
-use Rattle.sector_device.specs.Disks.{Disk, MayLeave, SeesDisk, seen}
-use Rattle.sector_device.specs.Moments.{Changes, MayLeaveNow}
-use Rattle.log_page.specs.Places.{lap_of}
-use Rattle.log_page.specs.LiveLogs.{said_lsn}
-use Rattle.log_area.specs.Areas.{lap_at}
-use Rattle.store_model.specs.Geometry.{SectorBytes}
-use Rattle.store_model.specs.Stores.{Store}
-use Rattle.store_model.specs.Volumes.{is_known}
+use Rattle.area_laws.specs.disk_model.declared.block.Block.{Block}
+use Rattle.area_laws.specs.disk_model.Sectors.{sector_of}
+use Rattle.area_laws.specs.disk_model.Content.{content_of}
+use Rattle.area_laws.specs.sector_device.Disks.{Disk, MayLeave, SeesDisk, seen}
+use Rattle.area_laws.specs.sector_device.Moments.{Changes, MayLeaveNow}
+use Rattle.area_laws.specs.log_page.Places.{lap_of}
+use Rattle.area_laws.specs.log_page.LiveLogs.{said_lsn}
+use Rattle.area_laws.specs.log_area.Areas.{lap_at}
+use Rattle.store_claims.specs.store_model.Geometry.{SectorBytes}
+use Rattle.store_claims.specs.store_model.Stores.{Store}
+use Rattle.store_claims.specs.store_model.Volumes.{is_known}
 use Rattle.store_claims.specs.Windows.{StoreWindow, store_window}
-use Rattle.ring_laws.specs.Numbers.{IsInRing, lap_of_page}
-use Rattle.ring_laws.specs.PageBytes.{raw_page}
-use Rattle.ring_laws.proofs.RingFacts.{laps_climb}
-use Rattle.ring_laws.proofs.RingReads.{laps_said}
+use Rattle.area_laws.specs.ring_laws.Numbers.{IsInRing, lap_of_page}
+use Rattle.area_laws.specs.ring_laws.PageBytes.{raw_page}
+use Rattle.area_laws.proofs.ring_laws.RingFacts.{laps_climb}
+use Rattle.area_laws.proofs.ring_laws.RingReads.{laps_said}
 use Rattle.txn_model.specs.Values.{StoreFacts, own_of}
 use Rattle.txn_laws.specs.Standing.{StandsBehindAs, session_of}
 use Rattle.txn_laws.specs.Windows.{HasWindowAs, IsShown}

@@ -2,29 +2,29 @@
 use Rattle.std.proofs.Common.{◌≡◌, subst, ℕ, ◌+◌, ◌-◌, ◌*◌, true, false, List, [], length, Option, Some, None, refl, sym, ap, ◌∙◌, arith}
 use Rattle.std.specs.Prelude.{slice_index, IfSome}
 use Rattle.std.proofs.lemmas.List.{ext_get_or, length-replicate}
-use Rattle.disk_model.specs.declared.block.Block.{Block}
-use Rattle.disk_model.specs.Sectors.{sectors}
-use Rattle.disk_model.specs.Content.{Content, content_of}
-use Rattle.sector_device.specs.Disks.{Disk, IsSettled, IsSized, seen}
-use Rattle.sector_device.specs.Moments.{Changes}
-use Rattle.log_page.specs.declared.places.LogPlace.{LogPlace}
-use Rattle.log_page.specs.declared.restart.Restart.{Restart}
-use Rattle.log_page.specs.Restarts.{is_clean, FitsRestart}
-use Rattle.log_area.specs.declared.restart.SentRestart.{SentRestart}
-use Rattle.log_area.specs.Areas.{LogAreaOf, sent_word, ring_size as area_size}
-use Rattle.store_model.specs.Stores.{Store}
-use Rattle.store_model.specs.Rings.{Ring, Restarts}
-use Rattle.store_model.specs.Volumes.{first_bytes, bytes_in, mounted_on, BearsContent}
+use Rattle.area_laws.specs.disk_model.declared.block.Block.{Block}
+use Rattle.area_laws.specs.disk_model.Sectors.{sectors}
+use Rattle.area_laws.specs.disk_model.Content.{Content, content_of}
+use Rattle.area_laws.specs.sector_device.Disks.{Disk, IsSettled, IsSized, seen}
+use Rattle.area_laws.specs.sector_device.Moments.{Changes}
+use Rattle.area_laws.specs.log_page.declared.places.LogPlace.{LogPlace}
+use Rattle.area_laws.specs.log_page.declared.restart.Restart.{Restart}
+use Rattle.area_laws.specs.log_page.Restarts.{is_clean, FitsRestart}
+use Rattle.area_laws.specs.log_area.declared.restart.SentRestart.{SentRestart}
+use Rattle.area_laws.specs.log_area.Areas.{LogAreaOf, sent_word, ring_size as area_size}
+use Rattle.store_claims.specs.store_model.Stores.{Store}
+use Rattle.store_claims.specs.store_model.Rings.{Ring, Restarts}
+use Rattle.store_claims.specs.store_model.Volumes.{first_bytes, bytes_in, mounted_on, BearsContent}
 use Rattle.store_claims.specs.Windows.{store_window}
-use Rattle.store_model.proofs.Told.{true≢false}
-use Rattle.store_model.proofs.Devices.{settled_bears}
-use Rattle.store_model.proofs.Volumes.{volume_geometry, is_volume, length-first_bytes, first_at, content_size}
-use Rattle.store_model.proofs.Refinement.{sound_events_law}
-use Rattle.ring_laws.specs.Numbers.{lsn_of_page}
-use Rattle.ring_laws.specs.RestartPages.{RestartFields}
-use Rattle.ring_laws.specs.StoreDisks.{disk_without}
-use Rattle.ring_laws.proofs.SeenDisks.{without_bears}
-use Rattle.ring_laws.proofs.StoreEvents.{log_starts}
+use Rattle.store_claims.proofs.store_model.Told.{true≢false}
+use Rattle.store_claims.proofs.store_model.Devices.{settled_bears}
+use Rattle.store_claims.proofs.store_model.Volumes.{volume_geometry, is_volume, length-first_bytes, first_at, content_size}
+use Rattle.store_claims.proofs.store_model.Refinement.{sound_events_law}
+use Rattle.area_laws.specs.ring_laws.Numbers.{lsn_of_page}
+use Rattle.area_laws.specs.ring_laws.RestartPages.{RestartFields}
+use Rattle.area_laws.specs.ring_laws.StoreDisks.{disk_without}
+use Rattle.area_laws.proofs.ring_laws.SeenDisks.{without_bears}
+use Rattle.area_laws.proofs.ring_laws.StoreEvents.{log_starts}
 use Rattle.area_laws.specs.Standing.{Stands}
 use Rattle.txn_model.specs.Values.{StoreFacts, own_of}
 use Rattle.txn_model.specs.Calls.{first_facts}

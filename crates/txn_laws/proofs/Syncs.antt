@@ -3,32 +3,32 @@ use Rattle.std.proofs.Common.{◌≡◌, ◌≢◌, subst, ℕ, zero, suc, ◌+�
 use Rattle.std.specs.Prelude.{◌&&◌, ◌||◌, not, nat_le, is_some, IfSome, slice_index, unwrap_or}
 use Rattle.std.proofs.lemmas.Bool.{cases_Bool, cases_lt, lt-leb, le-leb, leb-false, eq-eqb, ne_eqb}
 use Rattle.std.proofs.lemmas.List.{length-take-le, length-append, length-drop, get_or-take, get_or-drop, drop-drop}
-use Rattle.disk_model.specs.declared.block.Block.{Block}
-use Rattle.disk_model.specs.declared.block.Body.{Body}
-use Rattle.disk_model.specs.Sectors.{sectors}
-use Rattle.sector_device.specs.Disks.{Disk, IsSized, seen, settled}
-use Rattle.log_model.specs.declared.entry.Entry.{Entry}
-use Rattle.log_model.specs.Logs.{first_undo, is_misplaced}
-use Rattle.log_page.specs.declared.restart.Restart.{Restart}
-use Rattle.log_area.specs.Areas.{place_at, synced_area, number_of}
-use Rattle.store_model.specs.Logs.{BodyBytes, commits, undone, has_update, IsOusted}
-use Rattle.store_model.specs.Stores.{Store}
-use Rattle.store_model.specs.Events.{Loses, MayBury, synced_store, buried, freed, Step}
-use Rattle.store_model.specs.Events.Step.{sync, sync_frees}
-use Rattle.store_model.specs.Rings.{Ring, entries_on, synced_places}
-use Rattle.store_model.specs.Volumes.{first_bytes}
+use Rattle.area_laws.specs.disk_model.declared.block.Block.{Block}
+use Rattle.area_laws.specs.disk_model.declared.block.Body.{Body}
+use Rattle.area_laws.specs.disk_model.Sectors.{sectors}
+use Rattle.area_laws.specs.sector_device.Disks.{Disk, IsSized, seen, settled}
+use Rattle.area_laws.specs.log_model.declared.entry.Entry.{Entry}
+use Rattle.area_laws.specs.log_model.Logs.{first_undo, is_misplaced}
+use Rattle.area_laws.specs.log_page.declared.restart.Restart.{Restart}
+use Rattle.area_laws.specs.log_area.Areas.{place_at, synced_area, number_of}
+use Rattle.store_claims.specs.store_model.Logs.{BodyBytes, commits, undone, has_update, IsOusted}
+use Rattle.store_claims.specs.store_model.Stores.{Store}
+use Rattle.store_claims.specs.store_model.Events.{Loses, MayBury, synced_store, buried, freed, Step}
+use Rattle.store_claims.specs.store_model.Events.Step.{sync, sync_frees}
+use Rattle.store_claims.specs.store_model.Rings.{Ring, entries_on, synced_places}
+use Rattle.store_claims.specs.store_model.Volumes.{first_bytes}
 use Rattle.store_claims.specs.Windows.{store_window}
-use Rattle.store_model.proofs.Told.{true≢false, all_drop}
-use Rattle.store_model.proofs.Lost.{has_drop, loses_at, loses_rest}
-use Rattle.store_model.proofs.Ends.{commits-drop_le}
-use Rattle.store_model.proofs.Rings.{entries_front, entries_longer, drop_entries, take_entries}
-use Rattle.store_model.proofs.Sound.{sound-step}
-use Rattle.store_model.proofs.Moving.{windows_move_law}
-use Rattle.ring_laws.specs.Numbers.{LogSession, ring_size}
-use Rattle.ring_laws.specs.RestartPages.{restart_synced}
-use Rattle.ring_laws.specs.StoreLogs.{LogNumbers}
-use Rattle.ring_laws.proofs.SeenDisks.{without_synced}
-use Rattle.ring_laws.proofs.StoreEvents.{log_synced, log_freed}
+use Rattle.store_claims.proofs.store_model.Told.{true≢false, all_drop}
+use Rattle.store_claims.proofs.store_model.Lost.{has_drop, loses_at, loses_rest}
+use Rattle.store_claims.proofs.store_model.Ends.{commits-drop_le}
+use Rattle.store_claims.proofs.store_model.Rings.{entries_front, entries_longer, drop_entries, take_entries}
+use Rattle.store_claims.proofs.store_model.Sound.{sound-step}
+use Rattle.store_claims.proofs.store_model.Moving.{windows_move_law}
+use Rattle.area_laws.specs.ring_laws.Numbers.{LogSession, ring_size}
+use Rattle.area_laws.specs.ring_laws.RestartPages.{restart_synced}
+use Rattle.area_laws.specs.ring_laws.StoreLogs.{LogNumbers}
+use Rattle.area_laws.proofs.ring_laws.SeenDisks.{without_synced}
+use Rattle.area_laws.proofs.ring_laws.StoreEvents.{log_synced, log_freed}
 use Rattle.area_laws.specs.Standing.{Stands, freed_to}
 use Rattle.area_laws.proofs.Joined.{syncs_all}
 use Rattle.area_laws.proofs.Reading.{is_first, number_is}
@@ -40,7 +40,7 @@ use Rattle.txn_laws.specs.Standing.{HasBytes, IsKilled, StandsBehindAs, session_
 use Rattle.txn_laws.specs.Windows.{SimulatesAs, MovesTo}
 use Rattle.txn_laws.specs.Laws.{SyncsNow}
 use Rattle.txn_laws.proofs.Telling.{by_device, known_before_sync, sized_of}
-use Rattle.sector_device.specs.Moments.{Changes}
+use Rattle.area_laws.specs.sector_device.Moments.{Changes}
 use Rattle.std.specs.Option.{option_map}
 use Rattle.store_claims.proofs.Moving.{claims_move}
 use Rattle.store_claims.proofs.Staying.{claimed_stays}

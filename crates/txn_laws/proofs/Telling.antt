@@ -2,31 +2,31 @@
 use Rattle.std.proofs.Common.{◌≡◌, ◌⊎◌, subst, ℕ, ◌+◌, ◌-◌, ◌≤◌, max, Bool, true, false, List, length, drop, Option, Some, None, refl, sym, ap, ◌∙◌, inl, inr, arith}
 use Rattle.std.specs.Prelude.{Result, Ok, Err, IfSome}
 use Rattle.std.specs.Option.{option_map}
-use Rattle.disk_model.specs.declared.block.Block.{Block}
-use Rattle.disk_model.specs.Sectors.{sector_of}
-use Rattle.sector_device.specs.Disks.{Disk, MayLeave, IsSized, IsTornDisk, put, settled}
-use Rattle.sector_device.specs.Moments.{Changes, Remembers, Writes, Syncs, MayLeaveNow, LeftSince}
-use Rattle.sector_device.proofs.Images.{image_is_disk, one_call_more}
-use Rattle.log_page.specs.declared.places.LogPlace.{LogPlace}
-use Rattle.store_model.specs.Geometry.{SectorBytes, CanLeave}
-use Rattle.log_model.specs.declared.entry.Entry.{Entry}
-use Rattle.log_model.specs.Logs.{is_misplaced}
-use Rattle.log_page.specs.declared.restart.Restart.{Restart}
-use Rattle.log_page.specs.LiveLogs.{live_log}
-use Rattle.log_page.specs.RecordPages.{Reading}
-use Rattle.log_page.specs.Restarts.{FitsRestart}
-use Rattle.store_model.specs.Rings.{Restarts}
-use Rattle.store_model.specs.Stores.{Store, Image, list_of}
-use Rattle.store_model.proofs.Told.{all_drop, all_take}
-use Rattle.ring_laws.specs.PageBytes.{raw_page}
-use Rattle.ring_laws.specs.RestartPages.{RestartFields}
-use Rattle.ring_laws.specs.StoreDisks.{sectors_without}
-use Rattle.ring_laws.specs.StoreLogs.{LogNumbers, IsOfLog}
-use Rattle.ring_laws.proofs.SeenDisks.{without_left}
-use Rattle.ring_laws.proofs.StoreImages.{log_is_left}
-use Rattle.store_model.specs.Volumes.{AreWhole}
+use Rattle.area_laws.specs.disk_model.declared.block.Block.{Block}
+use Rattle.area_laws.specs.disk_model.Sectors.{sector_of}
+use Rattle.area_laws.specs.sector_device.Disks.{Disk, MayLeave, IsSized, IsTornDisk, put, settled}
+use Rattle.area_laws.specs.sector_device.Moments.{Changes, Remembers, Writes, Syncs, MayLeaveNow, LeftSince}
+use Rattle.area_laws.proofs.sector_device.Images.{image_is_disk, one_call_more}
+use Rattle.area_laws.specs.log_page.declared.places.LogPlace.{LogPlace}
+use Rattle.store_claims.specs.store_model.Geometry.{SectorBytes, CanLeave}
+use Rattle.area_laws.specs.log_model.declared.entry.Entry.{Entry}
+use Rattle.area_laws.specs.log_model.Logs.{is_misplaced}
+use Rattle.area_laws.specs.log_page.declared.restart.Restart.{Restart}
+use Rattle.area_laws.specs.log_page.LiveLogs.{live_log}
+use Rattle.area_laws.specs.log_page.RecordPages.{Reading}
+use Rattle.area_laws.specs.log_page.Restarts.{FitsRestart}
+use Rattle.store_claims.specs.store_model.Rings.{Restarts}
+use Rattle.store_claims.specs.store_model.Stores.{Store, Image, list_of}
+use Rattle.store_claims.proofs.store_model.Told.{all_drop, all_take}
+use Rattle.area_laws.specs.ring_laws.PageBytes.{raw_page}
+use Rattle.area_laws.specs.ring_laws.RestartPages.{RestartFields}
+use Rattle.area_laws.specs.ring_laws.StoreDisks.{sectors_without}
+use Rattle.area_laws.specs.ring_laws.StoreLogs.{LogNumbers, IsOfLog}
+use Rattle.area_laws.proofs.ring_laws.SeenDisks.{without_left}
+use Rattle.area_laws.proofs.ring_laws.StoreImages.{log_is_left}
+use Rattle.store_claims.specs.store_model.Volumes.{AreWhole}
 use Rattle.store_claims.specs.Windows.{StoreWindow, store_window}
-use Rattle.ring_laws.proofs.StoreRecovers.{image_recovers}
+use Rattle.area_laws.proofs.ring_laws.StoreRecovers.{image_recovers}
 use Rattle.txn_model.specs.Values.{StoreFacts, own_of, is_own}
 use Rattle.txn_laws.specs.Standing.{AreOwnPages, ArePlaced, StandsBehindAs, session_of, numbers_of}
 use Rattle.txn_laws.proofs.Mountable.{none_misplaced}

@@ -1,50 +1,50 @@
 -- A block is written out, in a write that answers Ok or fails.
 use Rattle.txn_laws.proofs.Rivals.{among_rivals}
 use Rattle.std.specs.List.{list_any}
-use Rattle.sector_device.proofs.Images.{known_after_write}
+use Rattle.area_laws.proofs.sector_device.Images.{known_after_write}
 use Rattle.host_base.specs.declared.outside.Failed.{Failed}
 use Rattle.std.proofs.Common.{◌≡◌, subst, ℕ, zero, suc, ◌+◌, ◌-◌, ◌*◌, ◌^◌, ◌<◌, ◌≤◌, Bool, true, false, cond, List, [], ◌∷◌, length, drop, get_or, Option, Some, None, Ok, refl, sym, ap, ap₂, ◌∙◌, inl, inr, arith, Err}
 use Rattle.std.specs.Prelude.{if◌then◌else◌, ◌&&◌, ◌||◌, not, nat_le, is_some, IfSome, unwrap_or, Contains}
 use Rattle.std.proofs.lemmas.Bool.{cases_Bool}
-use Rattle.disk_model.specs.declared.block.Block.{Block}
-use Rattle.disk_model.specs.declared.block.Body.{Body}
-use Rattle.disk_model.specs.Sectors.{sectors, same_block, are_rivals}
-use Rattle.disk_model.specs.declared.block.BlockKind.{BlockKind}
-use Rattle.disk_model.proofs.Frames.{same_block-is}
-use Rattle.fixup_record.specs.Protecting.{protected_bytes}
-use Rattle.fixup_record.specs.Spellings.{has_spelling, is_sequenced, spelled}
-use Rattle.fixup_record.proofs.Protected.{length-protected}
-use Rattle.sector_device.specs.Disks.{Disk, IsSized, IsBetween, put, seen, is_within}
-use Rattle.sector_device.specs.Moments.{Changes}
+use Rattle.area_laws.specs.disk_model.declared.block.Block.{Block}
+use Rattle.area_laws.specs.disk_model.declared.block.Body.{Body}
+use Rattle.area_laws.specs.disk_model.Sectors.{sectors, same_block, are_rivals}
+use Rattle.area_laws.specs.disk_model.declared.block.BlockKind.{BlockKind}
+use Rattle.area_laws.proofs.disk_model.Frames.{same_block-is}
+use Rattle.area_laws.specs.fixup_record.Protecting.{protected_bytes}
+use Rattle.area_laws.specs.fixup_record.Spellings.{has_spelling, is_sequenced, spelled}
+use Rattle.area_laws.proofs.fixup_record.Protected.{length-protected}
+use Rattle.area_laws.specs.sector_device.Disks.{Disk, IsSized, IsBetween, put, seen, is_within}
+use Rattle.area_laws.specs.sector_device.Moments.{Changes}
 use Rattle.std.specs.Option.{option_map}
-use Rattle.sector_device.specs.Sectors.{sectors_of}
-use Rattle.sector_device.specs.WholeSectors.{length-sectors_of}
-use Rattle.log_model.specs.declared.entry.Entry.{Entry}
-use Rattle.log_model.specs.Logs.{first_undo, is_in_grid}
+use Rattle.area_laws.specs.sector_device.Sectors.{sectors_of}
+use Rattle.area_laws.specs.sector_device.WholeSectors.{length-sectors_of}
+use Rattle.area_laws.specs.log_model.declared.entry.Entry.{Entry}
+use Rattle.area_laws.specs.log_model.Logs.{first_undo, is_in_grid}
 use Rattle.txn_laws.specs.Laws.{SendsBody}
-use Rattle.store_model.specs.Logs.{BodyBytes, undone, has_update}
-use Rattle.store_model.specs.Geometry.{PutsAll, Puts}
-use Rattle.store_model.specs.Stores.{Window, Store, is_held}
-use Rattle.store_model.specs.Events.{reread, MayWriteOut, Spells, written_out, Step, put_in_part}
-use Rattle.store_model.specs.Events.Step.{write_out, write_out_fails}
-use Rattle.store_model.specs.Rings.{entries_on}
-use Rattle.store_model.specs.Volumes.{is_known, first_bytes, sectors_from, is_free}
+use Rattle.store_claims.specs.store_model.Logs.{BodyBytes, undone, has_update}
+use Rattle.store_claims.specs.store_model.Geometry.{PutsAll, Puts}
+use Rattle.store_claims.specs.store_model.Stores.{Window, Store, is_held}
+use Rattle.store_claims.specs.store_model.Events.{reread, MayWriteOut, Spells, written_out, Step, put_in_part}
+use Rattle.store_claims.specs.store_model.Events.Step.{write_out, write_out_fails}
+use Rattle.store_claims.specs.store_model.Rings.{entries_on}
+use Rattle.store_claims.specs.store_model.Volumes.{is_known, first_bytes, sectors_from, is_free}
 use Rattle.store_claims.specs.Windows.{store_window}
-use Rattle.store_model.proofs.Told.{true≢false, or_left, or_right, same_self, rival_apart, rivals_both, rivals_other, or-true, or-false}
-use Rattle.store_model.proofs.Known.{is_in}
-use Rattle.store_model.proofs.Lost.{has_none}
-use Rattle.store_model.proofs.Volumes.{length-first_bytes}
-use Rattle.store_model.proofs.Devices.{spells_body}
-use Rattle.store_model.proofs.Rings.{drop_entries}
-use Rattle.store_model.proofs.Sound.{sound-step}
-use Rattle.store_model.proofs.Moving.{windows_move_law}
-use Rattle.ring_laws.specs.Numbers.{LogSession}
-use Rattle.ring_laws.specs.PageBytes.{page_sector, AreAlike}
-use Rattle.ring_laws.specs.StoreDisks.{disk_without}
-use Rattle.ring_laws.specs.StoreLogs.{LogNumbers}
-use Rattle.ring_laws.proofs.LogSectors.{kept_elsewhere}
-use Rattle.ring_laws.proofs.SeenDisks.{not_own, without_written, without_failed}
-use Rattle.ring_laws.proofs.StoreEvents.{log_kept}
+use Rattle.store_claims.proofs.store_model.Told.{true≢false, or_left, or_right, same_self, rival_apart, rivals_both, rivals_other, or-true, or-false}
+use Rattle.store_claims.proofs.store_model.Known.{is_in}
+use Rattle.store_claims.proofs.store_model.Lost.{has_none}
+use Rattle.store_claims.proofs.store_model.Volumes.{length-first_bytes}
+use Rattle.store_claims.proofs.store_model.Devices.{spells_body}
+use Rattle.store_claims.proofs.store_model.Rings.{drop_entries}
+use Rattle.store_claims.proofs.store_model.Sound.{sound-step}
+use Rattle.store_claims.proofs.store_model.Moving.{windows_move_law}
+use Rattle.area_laws.specs.ring_laws.Numbers.{LogSession}
+use Rattle.area_laws.specs.ring_laws.PageBytes.{page_sector, AreAlike}
+use Rattle.area_laws.specs.ring_laws.StoreDisks.{disk_without}
+use Rattle.area_laws.specs.ring_laws.StoreLogs.{LogNumbers}
+use Rattle.area_laws.proofs.ring_laws.LogSectors.{kept_elsewhere}
+use Rattle.area_laws.proofs.ring_laws.SeenDisks.{not_own, without_written, without_failed}
+use Rattle.area_laws.proofs.ring_laws.StoreEvents.{log_kept}
 use Rattle.area_laws.proofs.Joined.{stays}
 use Rattle.txn_model.specs.declared.mark.Mark.{Mark}
 use Rattle.txn_model.specs.Values.{StoreFacts, own_of}

@@ -1,17 +1,17 @@
 -- Windows that follow one another: which contents stay, and what that says of images that were left since a moment.
 use Rattle.std.specs.Prelude.{◌≡◌, ◌⊎◌, ℕ, ◌+◌, ◌<◌, ◌≤◌, Bool, true, false, ◌||◌, List, [], Some, None}
-use Rattle.disk_model.specs.declared.block.Block.{Block}
-use Rattle.log_model.specs.declared.entry.Entry.{Entry}
-use Rattle.log_model.specs.Logs.{is_shadowed}
-use Rattle.log_page.specs.declared.places.LogPlace.{LogPlace}
-use Rattle.log_page.specs.declared.restart.Restart.{Restart}
-use Rattle.log_page.specs.LiveLogs.{live_log}
-use Rattle.log_page.specs.Restarts.{is_clean}
-use Rattle.log_reading.specs.Fronts.{chosen_in}
-use Rattle.store_model.specs.Geometry.{SectorBytes}
-use Rattle.store_model.specs.Volumes.{is_known, IsRecovered, RecoversToContent}
+use Rattle.area_laws.specs.disk_model.declared.block.Block.{Block}
+use Rattle.area_laws.specs.log_model.declared.entry.Entry.{Entry}
+use Rattle.area_laws.specs.log_model.Logs.{is_shadowed}
+use Rattle.area_laws.specs.log_page.declared.places.LogPlace.{LogPlace}
+use Rattle.area_laws.specs.log_page.declared.restart.Restart.{Restart}
+use Rattle.area_laws.specs.log_page.LiveLogs.{live_log}
+use Rattle.area_laws.specs.log_page.Restarts.{is_clean}
+use Rattle.area_laws.specs.log_reading.Fronts.{chosen_in}
+use Rattle.store_claims.specs.store_model.Geometry.{SectorBytes}
+use Rattle.store_claims.specs.store_model.Volumes.{is_known, IsRecovered, RecoversToContent}
 use Rattle.store_claims.specs.Windows.{StoreWindow}
-use Rattle.ring_laws.specs.PageBytes.{raw_page}
+use Rattle.area_laws.specs.ring_laws.PageBytes.{raw_page}
 use Rattle.txn_laws.specs.Windows.{RecoversWithin, AfterBegin, AfterChange, AfterCommit, AfterGiveUp, AfterWrite, MovesTo}
 
 -- So many commits came, and some blocks' bodies were dropped: of each other block, each content that is left is one of before, or newer.

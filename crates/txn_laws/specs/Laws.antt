@@ -1,36 +1,36 @@
 -- The laws of a store's calls.
 use Rattle.std.specs.Prelude.{Bool, ◌≡◌, ℕ, ◌+◌, ◌-◌, ◌*◌, ◌/◌, ◌^◌, ◌<◌, ◌≤◌, true, false, List, [], length, Option, Some, None, Result, Ok, Err, IfSome, is_some, unwrap_or}
 use Rattle.host_base.specs.declared.outside.Failed.{Failed}
-use Rattle.disk_model.specs.declared.block.Block.{Block}
-use Rattle.disk_model.specs.declared.block.Body.{Body}
-use Rattle.disk_model.specs.Bytes.{written}
-use Rattle.disk_model.specs.Sectors.{sector_of, sectors, are_rivals}
-use Rattle.disk_model.specs.Content.{content_of}
-use Rattle.fixup_record.specs.Spellings.{has_spelling, spelled}
-use Rattle.sector_device.specs.Disks.{Disk, IsSettled, IsSized, SeesDisk, is_within, seen}
-use Rattle.sector_device.specs.Sectors.{sectors_of}
-use Rattle.sector_device.specs.Moments.{Changes, Syncs, MayLeaveNow}
-use Rattle.log_model.specs.declared.entry.Act.TheVariants.{Commit}
-use Rattle.log_area.specs.Calls.{IsAsked, Sends}
-use Rattle.store_model.specs.Volumes.{is_known, sectors_from}
+use Rattle.area_laws.specs.disk_model.declared.block.Block.{Block}
+use Rattle.area_laws.specs.disk_model.declared.block.Body.{Body}
+use Rattle.area_laws.specs.disk_model.Bytes.{written}
+use Rattle.area_laws.specs.disk_model.Sectors.{sector_of, sectors, are_rivals}
+use Rattle.area_laws.specs.disk_model.Content.{content_of}
+use Rattle.area_laws.specs.fixup_record.Spellings.{has_spelling, spelled}
+use Rattle.area_laws.specs.sector_device.Disks.{Disk, IsSettled, IsSized, SeesDisk, is_within, seen}
+use Rattle.area_laws.specs.sector_device.Sectors.{sectors_of}
+use Rattle.area_laws.specs.sector_device.Moments.{Changes, Syncs, MayLeaveNow}
+use Rattle.area_laws.specs.log_model.declared.entry.Act.TheVariants.{Commit}
+use Rattle.area_laws.specs.log_area.Calls.{IsAsked, Sends}
+use Rattle.store_claims.specs.store_model.Volumes.{is_known, sectors_from}
 use Rattle.store_claims.specs.Windows.{StoreWindow}
-use Rattle.log_page.specs.declared.places.LogPlace.{LogPlace}
-use Rattle.log_page.specs.declared.restart.Restart.{Restart}
-use Rattle.log_area.specs.Areas.{LogAreaOf, lap_at, next_number, number_lsn, new_area, named_area, synced_area, IsOldest}
-use Rattle.store_model.specs.Stores.{Store}
-use Rattle.store_model.specs.Events.{MayRename}
-use Rattle.store_model.specs.Rings.{Ring, Restarts}
-use Rattle.ring_laws.specs.Numbers.{lsn_of_page, IsInRing}
-use Rattle.ring_laws.specs.PageBytes.{raw_page}
-use Rattle.log_page.specs.Places.{lap_of, sequence_bits}
-use Rattle.log_page.specs.LiveLogs.{said_lsn}
-use Rattle.log_page.specs.Restarts.{is_clean, FitsRestart}
-use Rattle.ring_laws.specs.RestartPages.{RestartFields}
+use Rattle.area_laws.specs.log_page.declared.places.LogPlace.{LogPlace}
+use Rattle.area_laws.specs.log_page.declared.restart.Restart.{Restart}
+use Rattle.area_laws.specs.log_area.Areas.{LogAreaOf, lap_at, next_number, number_lsn, new_area, named_area, synced_area, IsOldest}
+use Rattle.store_claims.specs.store_model.Stores.{Store}
+use Rattle.store_claims.specs.store_model.Events.{MayRename}
+use Rattle.store_claims.specs.store_model.Rings.{Ring, Restarts}
+use Rattle.area_laws.specs.ring_laws.Numbers.{lsn_of_page, IsInRing}
+use Rattle.area_laws.specs.ring_laws.PageBytes.{raw_page}
+use Rattle.area_laws.specs.log_page.Places.{lap_of, sequence_bits}
+use Rattle.area_laws.specs.log_page.LiveLogs.{said_lsn}
+use Rattle.area_laws.specs.log_page.Restarts.{is_clean, FitsRestart}
+use Rattle.area_laws.specs.ring_laws.RestartPages.{RestartFields}
 use Rattle.area_laws.specs.Standing.{Stands}
-use Rattle.flush_policy.specs.declared.facts.Facts.{Facts}
-use Rattle.flush_policy.specs.declared.facts.StoreStep.{StoreStep}
-use Rattle.flush_policy.specs.Choice.{next_step}
-use Rattle.flush_policy.specs.Steps.{CanBe}
+use Rattle.txn_model.specs.flush_policy.declared.facts.Facts.{Facts}
+use Rattle.txn_model.specs.flush_policy.declared.facts.StoreStep.{StoreStep}
+use Rattle.txn_model.specs.flush_policy.Choice.{next_step}
+use Rattle.txn_model.specs.flush_policy.Steps.{CanBe}
 use Rattle.txn_model.specs.Calls.{front_lsn, MayNameNoted, named_facts, naming_facts}
 use Rattle.txn_model.specs.Told.{pages_end, FactsTold, AreDirty, KeepsMarked, KeepsSteps, MayTakeStep}
 use Rattle.txn_laws.specs.Standing.{StandsBehindAs}

@@ -1,25 +1,25 @@
 -- The recovery of a device by the entries of its log: what each of its writes leaves.
 use Rattle.std.specs.Prelude.{◌≡◌, ◌⊎◌, ℕ, ◌*◌, ◌^◌, ◌<◌, ◌&&◌, not, Bool, true, false, List, length, All}
-use Rattle.disk_model.specs.declared.block.Block.{Block}
-use Rattle.disk_model.specs.declared.block.BlockKind.TheVariants.{Plain}
-use Rattle.disk_model.specs.Sectors.{sectors, same_block}
-use Rattle.disk_model.specs.Content.{Content, content_of}
-use Rattle.fixup_record.specs.Spellings.{has_spelling, spelled}
-use Rattle.sector_device.specs.Disks.{Disk, IsBetween, IsSettled, IsSized, put, seen, settled}
-use Rattle.sector_device.specs.Sectors.{sectors_of}
-use Rattle.log_model.specs.declared.entry.Entry.{Entry}
-use Rattle.log_model.specs.Logs.{IsLevel, is_shadowed, is_covered_whole, is_written_out, recovered}
-use Rattle.log_page.specs.declared.places.LogPlace.{LogPlace}
-use Rattle.store_model.specs.Logs.{has_update}
-use Rattle.store_model.specs.Geometry.{SectorBytes, Geometry, CanLeave}
-use Rattle.store_model.specs.Recovery.{Begins}
-use Rattle.store_model.specs.Volumes.{is_known, bytes_in, IsVolume, AreWhole, RecoversToContent}
+use Rattle.area_laws.specs.disk_model.declared.block.Block.{Block}
+use Rattle.area_laws.specs.disk_model.declared.block.BlockKind.TheVariants.{Plain}
+use Rattle.area_laws.specs.disk_model.Sectors.{sectors, same_block}
+use Rattle.area_laws.specs.disk_model.Content.{Content, content_of}
+use Rattle.area_laws.specs.fixup_record.Spellings.{has_spelling, spelled}
+use Rattle.area_laws.specs.sector_device.Disks.{Disk, IsBetween, IsSettled, IsSized, put, seen, settled}
+use Rattle.area_laws.specs.sector_device.Sectors.{sectors_of}
+use Rattle.area_laws.specs.log_model.declared.entry.Entry.{Entry}
+use Rattle.area_laws.specs.log_model.Logs.{IsLevel, is_shadowed, is_covered_whole, is_written_out, recovered}
+use Rattle.area_laws.specs.log_page.declared.places.LogPlace.{LogPlace}
+use Rattle.store_claims.specs.store_model.Logs.{has_update}
+use Rattle.store_claims.specs.store_model.Geometry.{SectorBytes, Geometry, CanLeave}
+use Rattle.store_claims.specs.store_model.Recovery.{Begins}
+use Rattle.store_claims.specs.store_model.Volumes.{is_known, bytes_in, IsVolume, AreWhole, RecoversToContent}
 use Rattle.store_claims.specs.Windows.{StoreWindow}
-use Rattle.ring_laws.specs.PageBytes.{raw_page, IsStill, AreAlike}
-use Rattle.ring_laws.specs.StoreDisks.{disk_without}
+use Rattle.area_laws.specs.ring_laws.PageBytes.{raw_page, IsStill, AreAlike}
+use Rattle.area_laws.specs.ring_laws.StoreDisks.{disk_without}
 use Rattle.txn_model.specs.Values.{StoreFacts, is_own, own_of}
 use Rattle.txn_laws.specs.Windows.{HasStart, HasWindow, ClaimsAll}
-use Rattle.sector_device.specs.Moments.{Changes}
+use Rattle.area_laws.specs.sector_device.Moments.{Changes}
 
 -- these sectors have the block as it is in the content, torn at most where it is torn there
 pub record StandsAt (content : Content) (at : SectorBytes) (b : Block) : Type 0 where

@@ -1,25 +1,25 @@
 -- What stands behind what a store keeps: the machine, the log on the disk, and what the one says of the other.
 use Rattle.std.specs.Prelude.{◌≡◌, ◌≢◌, ◌⊎◌, ℕ, suc, ◌+◌, ◌-◌, ◌*◌, ◌%◌, ◌<◌, ◌≤◌, ◌&&◌, ◌||◌, Bool, true, false, List, [], length, take, drop, get_or, slice_index, Option, Some, is_some, IfSome}
 use Rattle.std.specs.List.{AllByRecursion}
-use Rattle.disk_model.specs.declared.block.Block.{Block}
-use Rattle.disk_model.specs.declared.block.Body.{Body}
-use Rattle.disk_model.specs.Sectors.{sectors, are_rivals}
-use Rattle.sector_device.specs.Disks.{Disk, IsSized}
-use Rattle.log_model.specs.declared.entry.Entry.{Entry}
-use Rattle.log_model.specs.Logs.{last_said, is_misplaced}
-use Rattle.log_page.specs.declared.restart.Restart.{Restart}
-use Rattle.log_page.specs.Restarts.{is_clean, FitsRestart}
-use Rattle.log_area.specs.declared.restart.SentRestart.{SentRestart}
-use Rattle.log_area.specs.Areas.{sent_word}
-use Rattle.store_model.specs.Logs.{BodyBytes, commits, undone, has_update, ended_with, IsOusted}
-use Rattle.store_model.specs.Geometry.{Geometry}
-use Rattle.store_model.specs.Stores.{Window, Store, IsSound}
-use Rattle.store_model.specs.Rings.{Ring, Restarts, entries_on}
-use Rattle.store_model.specs.Volumes.{is_known, first_bytes, IsVolume}
-use Rattle.ring_laws.specs.Numbers.{LogSession, ring_size}
-use Rattle.ring_laws.specs.RestartPages.{RestartFields}
-use Rattle.ring_laws.specs.StoreDisks.{disk_without}
-use Rattle.ring_laws.specs.StoreLogs.{LogNumbers, HoldsLog}
+use Rattle.area_laws.specs.disk_model.declared.block.Block.{Block}
+use Rattle.area_laws.specs.disk_model.declared.block.Body.{Body}
+use Rattle.area_laws.specs.disk_model.Sectors.{sectors, are_rivals}
+use Rattle.area_laws.specs.sector_device.Disks.{Disk, IsSized}
+use Rattle.area_laws.specs.log_model.declared.entry.Entry.{Entry}
+use Rattle.area_laws.specs.log_model.Logs.{last_said, is_misplaced}
+use Rattle.area_laws.specs.log_page.declared.restart.Restart.{Restart}
+use Rattle.area_laws.specs.log_page.Restarts.{is_clean, FitsRestart}
+use Rattle.area_laws.specs.log_area.declared.restart.SentRestart.{SentRestart}
+use Rattle.area_laws.specs.log_area.Areas.{sent_word}
+use Rattle.store_claims.specs.store_model.Logs.{BodyBytes, commits, undone, has_update, ended_with, IsOusted}
+use Rattle.store_claims.specs.store_model.Geometry.{Geometry}
+use Rattle.store_claims.specs.store_model.Stores.{Window, Store, IsSound}
+use Rattle.store_claims.specs.store_model.Rings.{Ring, Restarts, entries_on}
+use Rattle.store_claims.specs.store_model.Volumes.{is_known, first_bytes, IsVolume}
+use Rattle.area_laws.specs.ring_laws.Numbers.{LogSession, ring_size}
+use Rattle.area_laws.specs.ring_laws.RestartPages.{RestartFields}
+use Rattle.area_laws.specs.ring_laws.StoreDisks.{disk_without}
+use Rattle.area_laws.specs.ring_laws.StoreLogs.{LogNumbers, HoldsLog}
 use Rattle.area_laws.specs.Standing.{Stands}
 use Rattle.txn_model.specs.declared.mark.Mark.{Mark}
 use Rattle.txn_model.specs.Values.{StoreFacts, own_of}

@@ -1,29 +1,29 @@
 -- The window of a store, and what a call does to it.
 use Rattle.std.specs.Prelude.{◌≡◌, ◌⊎◌, ℕ, suc, ◌≤◌, max, Bool, true, false, List, [], Some, None}
-use Rattle.disk_model.specs.declared.block.Block.{Block}
-use Rattle.disk_model.specs.declared.block.Body.{Body}
-use Rattle.disk_model.specs.Bytes.{written}
-use Rattle.disk_model.specs.Sectors.{sector_of, same_block}
-use Rattle.disk_model.specs.Content.{Content, content_of}
-use Rattle.fixup_record.specs.Spellings.{has_spelling}
-use Rattle.sector_device.specs.Disks.{Disk}
-use Rattle.sector_device.specs.Moments.{Changes, LeftSince}
-use Rattle.log_model.specs.declared.entry.Entry.{Entry}
-use Rattle.log_model.specs.Logs.{is_shadowed, is_other, is_written_out, first_misplaced, first_partial}
-use Rattle.log_page.specs.declared.places.LogPlace.{LogPlace}
-use Rattle.log_page.specs.declared.restart.Restart.{Restart}
-use Rattle.log_page.specs.LiveLogs.{live_log, next_lap}
-use Rattle.log_page.specs.Restarts.{is_clean, FitsRestart}
-use Rattle.log_area.specs.Areas.{lap_at, next_number}
-use Rattle.log_reading.specs.Fronts.{chosen_in}
-use Rattle.store_model.specs.Logs.{has_update}
-use Rattle.store_model.specs.Geometry.{SectorBytes}
-use Rattle.store_model.specs.Stores.{Store}
-use Rattle.store_model.specs.Volumes.{is_known, RecoversToContent}
+use Rattle.area_laws.specs.disk_model.declared.block.Block.{Block}
+use Rattle.area_laws.specs.disk_model.declared.block.Body.{Body}
+use Rattle.area_laws.specs.disk_model.Bytes.{written}
+use Rattle.area_laws.specs.disk_model.Sectors.{sector_of, same_block}
+use Rattle.area_laws.specs.disk_model.Content.{Content, content_of}
+use Rattle.area_laws.specs.fixup_record.Spellings.{has_spelling}
+use Rattle.area_laws.specs.sector_device.Disks.{Disk}
+use Rattle.area_laws.specs.sector_device.Moments.{Changes, LeftSince}
+use Rattle.area_laws.specs.log_model.declared.entry.Entry.{Entry}
+use Rattle.area_laws.specs.log_model.Logs.{is_shadowed, is_other, is_written_out, first_misplaced, first_partial}
+use Rattle.area_laws.specs.log_page.declared.places.LogPlace.{LogPlace}
+use Rattle.area_laws.specs.log_page.declared.restart.Restart.{Restart}
+use Rattle.area_laws.specs.log_page.LiveLogs.{live_log, next_lap}
+use Rattle.area_laws.specs.log_page.Restarts.{is_clean, FitsRestart}
+use Rattle.area_laws.specs.log_area.Areas.{lap_at, next_number}
+use Rattle.area_laws.specs.log_reading.Fronts.{chosen_in}
+use Rattle.store_claims.specs.store_model.Logs.{has_update}
+use Rattle.store_claims.specs.store_model.Geometry.{SectorBytes}
+use Rattle.store_claims.specs.store_model.Stores.{Store}
+use Rattle.store_claims.specs.store_model.Volumes.{is_known, RecoversToContent}
 use Rattle.store_claims.specs.Claims.{ClaimWindow}
 use Rattle.store_claims.specs.Windows.{StoreWindow, store_window}
 use Rattle.store_claims.specs.Moves.{Keeps, ClaimsStay, ClaimsAfterChange, ClaimsAfterCommit, ClaimsAfterGiveUp}
-use Rattle.ring_laws.specs.PageBytes.{raw_page}
+use Rattle.area_laws.specs.ring_laws.PageBytes.{raw_page}
 use Rattle.txn_model.specs.Values.{StoreFacts, own_of}
 use Rattle.txn_laws.specs.Standing.{StandsBehindAs}
 

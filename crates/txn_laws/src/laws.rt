@@ -11,7 +11,7 @@ ghost use Rattle.txn_laws.specs.Laws.{
   WindowsTell,
 };
 
-use sector_device::Device;
+use area_laws::Device;
 
 /// Law: at a return, whatever a crash may leave recovers to a content of the store's window, in
 /// which as many commits wait as aren't known durable; and each present body is the one that is

@@ -7,7 +7,9 @@
 
 mod laws;
 
+pub use area_laws::{Device, LAST_MOMENT, LogPlace, View, ViewFault, lap_of, page_lsn};
 pub use laws::{
     checkpoint_steps, device_steps, endings_tell, memory_calls, mounts_go_on,
     next_steps_may_be_taken, stores_start, told_can_be, windows_follow, windows_tell,
 };
+pub use txn_model::{Facts, Pool, StoreStep};

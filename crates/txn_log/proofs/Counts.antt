@@ -1,8 +1,8 @@
 -- Pages that are counted entry by entry.
 use Rattle.std.proofs.Common.{◌≡◌, ℕ, zero, suc, ◌+◌, ◌-◌, ◌^◌, ◌<◌, ◌≤◌, min, cond, List, [], ◌∷◌, ◌++◌, map, refl, sym, ap, ap₂, ◌∙◌, inl, inr, arith}
 use Rattle.std.proofs.lemmas.Bool.{cases_lt}
-use Rattle.log_model.specs.Entries.{update_size}
-use Rattle.txn_model.specs.Pieces.{Piece, cut}
+use Rattle.store_pools.specs.log_model.Entries.{update_size}
+use Rattle.store_pools.specs.txn_model.Pieces.{Piece, cut}
 use Rattle.txn_log.specs.Counts.{begins_page, free_after, pages_of, piece_size, capped}
 use Rattle.txn_log.specs.Counting.{counted}
 use Rattle.txn_log.proofs.Cuts.{cut_first, cut_none}

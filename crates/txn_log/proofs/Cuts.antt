@@ -1,7 +1,7 @@
 -- Pieces, one behind the other.
 use Rattle.std.proofs.Common.{◌≡◌, ℕ, zero, suc, ◌+◌, ◌-◌, ◌<◌, min, Bool, cond, List, [], ◌∷◌, ◌++◌, map, refl, sym, ap, ap₂, ◌∙◌, append_assoc, arith}
 use Rattle.std.proofs.lemmas.Bool.{eq-eqb, ne_eqb}
-use Rattle.txn_model.specs.Pieces.{Piece, cut}
+use Rattle.store_pools.specs.txn_model.Pieces.{Piece, cut}
 
 -- the first piece of these, and the others
 pub cut_first : (most at n : ℕ) → 0 < n → cut (suc most) at n ≡ record { at = at; count = min 1900 n } ∷ cut most (at + min 1900 n) (n - min 1900 n)

@@ -3,15 +3,15 @@ use Rattle.std.proofs.Common.{◌≡◌, subst, ℕ, ◌+◌, Bool, true, false,
 use mathlib.Core.Path.{fun_ext}
 use Rattle.std.specs.Prelude.{◌==◌}
 use Rattle.std.proofs.lemmas.Bool.{ne_eqb}
-use Rattle.disk_model.specs.declared.block.Block.{Block}
-use Rattle.disk_model.specs.declared.block.Change.{Change}
-use Rattle.disk_model.specs.Sectors.{same_block, are_rivals}
-use Rattle.log_model.specs.declared.entry.Act.TheVariants.{Commit}
-use Rattle.log_model.specs.Entries.{act_size}
-use Rattle.log_area.specs.Areas.{LogAreaOf, free_pages}
-use Rattle.txn_model.specs.declared.mark.Mark.{Mark}
-use Rattle.txn_model.specs.Pieces.{log_with}
-use Rattle.txn_model.specs.Calls.{changed_mark, rival_mark}
+use Rattle.store_pools.specs.disk_model.declared.block.Block.{Block}
+use Rattle.store_pools.specs.disk_model.declared.block.Change.{Change}
+use Rattle.store_pools.specs.disk_model.Sectors.{same_block, are_rivals}
+use Rattle.store_pools.specs.log_model.declared.entry.Act.TheVariants.{Commit}
+use Rattle.store_pools.specs.log_model.Entries.{act_size}
+use Rattle.store_pools.specs.log_area.Areas.{LogAreaOf, free_pages}
+use Rattle.store_pools.specs.txn_model.declared.mark.Mark.{Mark}
+use Rattle.store_pools.specs.txn_model.Pieces.{log_with}
+use Rattle.store_pools.specs.txn_model.Calls.{changed_mark, rival_mark}
 use Rattle.txn_log.specs.Counts.{change_sizes, imaged_after, sizes_of, pages_of, pages_needed}
 use Rattle.txn_log.specs.Laws.{HasRoom, IsLogged, acts_of, PagesAreEnough}
 use Rattle.txn_log.proofs.Rooms.{Enough, enough}

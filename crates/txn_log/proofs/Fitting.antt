@@ -3,17 +3,17 @@ use Rattle.std.proofs.Common.{◌≡◌, subst, ℕ, zero, suc, ◌+◌, ◌-◌
 use Rattle.std.specs.List.{AllByRecursion}
 use Rattle.std.proofs.lemmas.Bool.{cases_lt, eqb-true}
 use Rattle.std.proofs.lemmas.List.{length-take-le, length-drop}
-use Rattle.disk_model.specs.declared.block.Block.{Block}
-use Rattle.disk_model.specs.declared.block.BlockKind.{BlockKind}
-use Rattle.disk_model.specs.declared.block.BlockKind.TheVariants.{Plain, FileRec, Index}
-use Rattle.disk_model.specs.declared.block.Change.{Change}
-use Rattle.disk_model.specs.Bytes.{part, written}
-use Rattle.disk_model.specs.Sectors.{sectors}
-use Rattle.disk_model.proofs.Frames.{length-written}
-use Rattle.log_model.specs.Entries.{act_size, update_size, IsPlaced, FitsAct}
-use Rattle.log_model.specs.Logs.{may_begin, is_in_grid}
-use Rattle.block_pool.specs.Numbers.{kind_number}
-use Rattle.txn_model.specs.Pieces.{Piece, cut, logged_acts, update_of_piece}
+use Rattle.store_pools.specs.disk_model.declared.block.Block.{Block}
+use Rattle.store_pools.specs.disk_model.declared.block.BlockKind.{BlockKind}
+use Rattle.store_pools.specs.disk_model.declared.block.BlockKind.TheVariants.{Plain, FileRec, Index}
+use Rattle.store_pools.specs.disk_model.declared.block.Change.{Change}
+use Rattle.store_pools.specs.disk_model.Bytes.{part, written}
+use Rattle.store_pools.specs.disk_model.Sectors.{sectors}
+use Rattle.store_pools.proofs.disk_model.Frames.{length-written}
+use Rattle.store_pools.specs.log_model.Entries.{act_size, update_size, IsPlaced, FitsAct}
+use Rattle.store_pools.specs.log_model.Logs.{may_begin, is_in_grid}
+use Rattle.store_pools.specs.block_pool.Numbers.{kind_number}
+use Rattle.store_pools.specs.txn_model.Pieces.{Piece, cut, logged_acts, update_of_piece}
 use Rattle.txn_log.specs.Counts.{piece_size, change_sizes}
 use Rattle.txn_log.specs.Laws.{IsLogged}
 use Rattle.txn_log.proofs.Cuts.{cut_first, cut_none}

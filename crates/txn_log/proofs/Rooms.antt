@@ -4,15 +4,15 @@ use Rattle.std.specs.Prelude.{◌&&◌, nat_le, nat_lt}
 use Rattle.std.specs.List.{AllByRecursion}
 use Rattle.std.proofs.Math.Nat.{lt-mul-div-succ, div-lt_iff_lt-mul}
 use Rattle.std.proofs.lemmas.Bool.{cases_lt, lt-ltb, le-leb, leb-true}
-use Rattle.log_model.specs.declared.entry.Entry.{Entry}
-use Rattle.log_model.specs.declared.entry.Act.{Act}
-use Rattle.log_model.specs.declared.entry.Act.TheVariants.{Update, Commit}
-use Rattle.log_model.specs.Entries.{act_size, FitsAct}
-use Rattle.log_page.specs.Places.{sequence_bits}
-use Rattle.log_area.specs.Areas.{LogAreaOf, ring_size, lap_at, next_number, next_at, needs_page, used_pages, free_pages, appended}
-use Rattle.log_area.proofs.Numbering.{lsn_small}
-use Rattle.txn_model.specs.Pieces.{next_entry, log_with, last_of}
-use Rattle.txn_model.specs.Appending.{MayAppend, MayAppendAll}
+use Rattle.store_pools.specs.log_model.declared.entry.Entry.{Entry}
+use Rattle.store_pools.specs.log_model.declared.entry.Act.{Act}
+use Rattle.store_pools.specs.log_model.declared.entry.Act.TheVariants.{Update, Commit}
+use Rattle.store_pools.specs.log_model.Entries.{act_size, FitsAct}
+use Rattle.store_pools.specs.log_page.Places.{sequence_bits}
+use Rattle.store_pools.specs.log_area.Areas.{LogAreaOf, ring_size, lap_at, next_number, next_at, needs_page, used_pages, free_pages, appended}
+use Rattle.store_pools.proofs.log_area.Numbering.{lsn_small}
+use Rattle.store_pools.specs.txn_model.Pieces.{next_entry, log_with, last_of}
+use Rattle.store_pools.specs.txn_model.Appending.{MayAppend, MayAppendAll}
 use Rattle.txn_log.specs.Counts.{begins_page, free_after, pages_of}
 use Rattle.txn_log.specs.Laws.{IsFilled, HasRoom}
 

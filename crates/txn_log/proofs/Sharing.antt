@@ -5,17 +5,17 @@ use Rattle.std.specs.List.{list_any, range_with_len}
 use Rattle.std.proofs.lemmas.Bool.{cases_lt, eqb-true, ltb-true, lt-ltb}
 use Rattle.std.proofs.lemmas.List.Folds.{list_any_at}
 use Rattle.std.proofs.lemmas.List.FromFn.{length-map-range_with_len, get_or-map-range_with_len}
-use Rattle.disk_model.specs.declared.block.Block.{Block}
-use Rattle.disk_model.specs.declared.block.BlockKind.{BlockKind}
-use Rattle.disk_model.specs.declared.block.BlockKind.TheVariants.{Plain, FileRec, Index}
-use Rattle.disk_model.specs.Sectors.{same_block, are_rivals}
-use Rattle.disk_model.proofs.Frames.{same_block-is}
-use Rattle.log_model.specs.Logs.{may_begin, is_in_grid}
+use Rattle.store_pools.specs.disk_model.declared.block.Block.{Block}
+use Rattle.store_pools.specs.disk_model.declared.block.BlockKind.{BlockKind}
+use Rattle.store_pools.specs.disk_model.declared.block.BlockKind.TheVariants.{Plain, FileRec, Index}
+use Rattle.store_pools.specs.disk_model.Sectors.{same_block, are_rivals}
+use Rattle.store_pools.proofs.disk_model.Frames.{same_block-is}
+use Rattle.store_pools.specs.log_model.Logs.{may_begin, is_in_grid}
 use Rattle.std.specs.Cmp.{unsigned_tied}
 use Rattle.std.proofs.lemmas.Bool.Decides.{nat_tests}
-use Rattle.block_pool.specs.Numbers.{block_number}
-use Rattle.block_pool.proofs.Ordering.{order_equal}
-use Rattle.txn_model.specs.Calls.{plain_at, record_at, index_at, rivals_of}
+use Rattle.store_pools.specs.block_pool.Numbers.{block_number}
+use Rattle.store_pools.proofs.block_pool.Ordering.{order_equal}
+use Rattle.store_pools.specs.txn_model.Calls.{plain_at, record_at, index_at, rivals_of}
 
 true≢false : {X : Type 0} → true ≡ false → X
 true≢false e = absurd cc

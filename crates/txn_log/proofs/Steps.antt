@@ -1,11 +1,11 @@
 -- Entries that are appended one behind the other.
 use Rattle.std.proofs.Common.{◌≡◌, subst, ℕ, List, ◌∷◌, length, sym, ap, ap₂, ◌∙◌}
 use Rattle.std.specs.Prelude.{slice_set}
-use Rattle.log_model.specs.declared.entry.Entry.{Entry}
-use Rattle.log_model.specs.declared.entry.Act.{Act}
-use Rattle.log_area.specs.Areas.{LogAreaOf, ring_size, place_at, appended}
-use Rattle.txn_model.specs.Pieces.{next_entry, log_with, last_of, ends_with}
-use Rattle.txn_model.specs.Appending.{MayAppendAll}
+use Rattle.store_pools.specs.log_model.declared.entry.Entry.{Entry}
+use Rattle.store_pools.specs.log_model.declared.entry.Act.{Act}
+use Rattle.store_pools.specs.log_area.Areas.{LogAreaOf, ring_size, place_at, appended}
+use Rattle.store_pools.specs.txn_model.Pieces.{next_entry, log_with, last_of, ends_with}
+use Rattle.store_pools.specs.txn_model.Appending.{MayAppendAll}
 
 -- The entries of these acts may be appended yet, and then all is as where those of all acts were appended at first.
 pub record GoesOn (tx commits : ℕ) (log0 : LogAreaOf) (last0 : ℕ) (ends0 : List ℕ) (all : List Act) (log : LogAreaOf) (last : ℕ) (ends : List ℕ) (acts : List Act) : Type 0 where

@@ -4,15 +4,15 @@ use Rattle.std.proofs.lemmas.Bool.{ne_eqb}
 use Rattle.std.proofs.lemmas.List.{drop_all}
 use Rattle.std.specs.Prelude.{◌||◌, ◌==◌, All, OnOk, unwrap_or}
 use Rattle.std.specs.List.{list_any}
-use Rattle.disk_model.specs.declared.block.Block.{Block}
-use Rattle.disk_model.specs.declared.block.Change.{Change}
-use Rattle.disk_model.specs.Sectors.{same_block, are_rivals}
-use Rattle.log_model.specs.Logs.{is_in_grid}
-use Rattle.block_pool.specs.Pools.{held, with_block}
+use Rattle.store_pools.specs.disk_model.declared.block.Block.{Block}
+use Rattle.store_pools.specs.disk_model.declared.block.Change.{Change}
+use Rattle.store_pools.specs.disk_model.Sectors.{same_block, are_rivals}
+use Rattle.store_pools.specs.log_model.Logs.{is_in_grid}
+use Rattle.store_pools.specs.block_pool.Pools.{held, with_block}
 use Rattle.store_pools.specs.Pools.{marks_of}
 use Rattle.store_pools.proofs.Pools.{held_with}
-use Rattle.txn_model.specs.declared.mark.Mark.{Mark}
-use Rattle.txn_model.specs.Calls.{rivals_of}
+use Rattle.store_pools.specs.txn_model.declared.mark.Mark.{Mark}
+use Rattle.store_pools.specs.txn_model.Calls.{rivals_of}
 use Rattle.txn_log.specs.Counts.{change_sizes, imaged_after, sizes_of, pages_of, capped}
 use Rattle.txn_log.specs.Counting.{counted, imaged_in}
 use Rattle.txn_log.proofs.Sharing.{among_is}

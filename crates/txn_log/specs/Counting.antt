@@ -1,9 +1,9 @@
 -- Counting pages entry by entry.
 use Rattle.std.specs.Prelude.{ℕ, ◌+◌, if◌then◌else◌, Bool, List, [], ◌∷◌, unwrap_or}
-use Rattle.disk_model.specs.declared.block.Block.{Block}
-use Rattle.block_pool.specs.Pools.{held}
+use Rattle.store_pools.specs.disk_model.declared.block.Block.{Block}
+use Rattle.store_pools.specs.block_pool.Pools.{held}
 use Rattle.store_pools.specs.Pools.{marks_of}
-use Rattle.txn_model.specs.declared.mark.Mark.{Mark}
+use Rattle.store_pools.specs.txn_model.declared.mark.Mark.{Mark}
 use Rattle.txn_log.specs.Counts.{begins_page, free_after, capped}
 
 -- so many pages with those that entries of these sizes begin

@@ -1,11 +1,11 @@
 -- The pages that changes take from now on: by the sizes of their entries alone.
 use Rattle.std.specs.Prelude.{ℕ, ◌+◌, ◌^◌, ◌-◌, ◌==◌, ◌&&◌, not, min, nat_le, nat_lt, if◌then◌else◌, Bool, true, false, List, [], ◌∷◌, ◌++◌, length, map}
-use Rattle.disk_model.specs.declared.block.Block.{Block}
-use Rattle.disk_model.specs.declared.block.Change.{Change}
-use Rattle.disk_model.specs.Sectors.{same_block, are_rivals}
-use Rattle.log_model.specs.Entries.{head_size, update_size}
-use Rattle.log_page.specs.Places.{page_bytes, entries_at}
-use Rattle.txn_model.specs.Pieces.{Piece, logged_pieces}
+use Rattle.store_pools.specs.disk_model.declared.block.Block.{Block}
+use Rattle.store_pools.specs.disk_model.declared.block.Change.{Change}
+use Rattle.store_pools.specs.disk_model.Sectors.{same_block, are_rivals}
+use Rattle.store_pools.specs.log_model.Entries.{head_size, update_size}
+use Rattle.store_pools.specs.log_page.Places.{page_bytes, entries_at}
+use Rattle.store_pools.specs.txn_model.Pieces.{Piece, logged_pieces}
 
 -- An entry of so many bytes begins a page, where the first free byte of the page that is filled has this offset; and that offset behind the entry.
 abbrev pub begins_page : ℕ → ℕ → Bool

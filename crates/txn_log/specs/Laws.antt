@@ -1,17 +1,17 @@
 -- What the pages that were counted are enough for.
 use Rattle.std.specs.Prelude.{◌≡◌, ℕ, ◌+◌, ◌*◌, ◌^◌, ◌<◌, ◌≤◌, Bool, true, List, [], ◌∷◌, length}
-use Rattle.disk_model.specs.declared.block.Block.{Block}
-use Rattle.disk_model.specs.declared.block.Change.{Change}
-use Rattle.disk_model.specs.Sectors.{sectors}
-use Rattle.log_model.specs.declared.entry.Act.{Act}
-use Rattle.log_model.specs.declared.entry.Act.TheVariants.{Commit}
-use Rattle.log_model.specs.Logs.{is_in_grid}
-use Rattle.log_page.specs.Places.{page_bytes, entries_at, sequence_bits}
-use Rattle.log_area.specs.Areas.{LogAreaOf, IsLogArea, lap_at, free_pages}
-use Rattle.txn_model.specs.declared.mark.Mark.{Mark}
-use Rattle.txn_model.specs.Pieces.{logged_acts, log_with, last_of}
-use Rattle.txn_model.specs.Calls.{changed_marks}
-use Rattle.txn_model.specs.Appending.{MayAppendAll}
+use Rattle.store_pools.specs.disk_model.declared.block.Block.{Block}
+use Rattle.store_pools.specs.disk_model.declared.block.Change.{Change}
+use Rattle.store_pools.specs.disk_model.Sectors.{sectors}
+use Rattle.store_pools.specs.log_model.declared.entry.Act.{Act}
+use Rattle.store_pools.specs.log_model.declared.entry.Act.TheVariants.{Commit}
+use Rattle.store_pools.specs.log_model.Logs.{is_in_grid}
+use Rattle.store_pools.specs.log_page.Places.{page_bytes, entries_at, sequence_bits}
+use Rattle.store_pools.specs.log_area.Areas.{LogAreaOf, IsLogArea, lap_at, free_pages}
+use Rattle.store_pools.specs.txn_model.declared.mark.Mark.{Mark}
+use Rattle.store_pools.specs.txn_model.Pieces.{logged_acts, log_with, last_of}
+use Rattle.store_pools.specs.txn_model.Calls.{changed_marks}
+use Rattle.store_pools.specs.txn_model.Appending.{MayAppendAll}
 use Rattle.txn_log.specs.Counts.{imaged_after, pages_needed}
 
 -- The numbers of a ring: its pages, and how far the one that is filled is.

@@ -1,14 +1,13 @@
 //! The updates that a change logs.
 ghost use Rattle.std.specs.Prelude.{◌≡◌, ◌+◌, ◌*◌, ◌≤◌, IfOk, length, map};
-ghost use Rattle.disk_model.specs.Bytes.{part, written};
-ghost use Rattle.disk_model.specs.Sectors.{sectors};
-ghost use Rattle.block_pool.specs.Numbers.{kind_number};
-ghost use Rattle.txn_model.specs.Pieces.{pieces, update_of_piece, logged_acts};
+ghost use Rattle.store_pools.specs.disk_model.Bytes.{part, written};
+ghost use Rattle.store_pools.specs.disk_model.Sectors.{sectors};
+ghost use Rattle.store_pools.specs.block_pool.Numbers.{kind_number};
+ghost use Rattle.store_pools.specs.txn_model.Pieces.{pieces, update_of_piece, logged_acts};
 
-use disk_model::{Block, BlockKind, put_bytes};
 use host_base::Bytes;
-use log_model::Act;
 use std::alloc::{AllocError, Global};
+use store_pools::{Act, Block, BlockKind, put_bytes};
 
 /// The most bytes of one update.
 pub const MOST: usize = 1900;

@@ -1,12 +1,11 @@
 //! Entries of a transaction that are appended to the ring.
 ghost use Rattle.std.specs.Prelude.{◌≡◌, ◌<◌, ◌∷◌, [], length, slice_set};
-ghost use Rattle.log_model.specs.declared.entry.Act.TheVariants.{Commit};
-ghost use Rattle.log_area.specs.Areas.{ring_size, place_at, appended};
-ghost use Rattle.txn_model.specs.Pieces.{next_entry, log_with, last_of, ends_with};
-ghost use Rattle.txn_model.specs.Appending.{MayAppend, MayAppendAll};
+ghost use Rattle.store_pools.specs.log_model.declared.entry.Act.TheVariants.{Commit};
+ghost use Rattle.store_pools.specs.log_area.Areas.{ring_size, place_at, appended};
+ghost use Rattle.store_pools.specs.txn_model.Pieces.{next_entry, log_with, last_of, ends_with};
+ghost use Rattle.store_pools.specs.txn_model.Appending.{MayAppend, MayAppendAll};
 
-use log_area::{Entry, LogArea};
-use log_model::Act;
+use store_pools::{Act, Entry, LogArea};
 
 // Tells a place so many commits.
 fn tell(ends: &mut [u64], slot: usize, commits: u64)

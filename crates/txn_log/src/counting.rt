@@ -1,24 +1,21 @@
 //! The pages that changes will take.
 ghost use Rattle.std.specs.Prelude.{◌≡◌, ◌+◌, ◌≤◌, ◌*◌, ◌++◌, ℕ, true, false, All, IfOk, OnOk, List, Some, cond, if◌then◌else◌, length, map};
 ghost use Rattle.std.specs.List.{list_any};
-ghost use Rattle.disk_model.specs.declared.block.Block.{Block as BlockOf};
-ghost use Rattle.disk_model.specs.Bytes.{up8};
-ghost use Rattle.disk_model.specs.Sectors.{same_block};
-ghost use Rattle.log_model.specs.Logs.{is_in_grid};
-ghost use Rattle.block_pool.specs.Pools.{held};
+ghost use Rattle.store_pools.specs.disk_model.declared.block.Block.{Block as BlockOf};
+ghost use Rattle.store_pools.specs.disk_model.Bytes.{up8};
+ghost use Rattle.store_pools.specs.disk_model.Sectors.{same_block};
+ghost use Rattle.store_pools.specs.log_model.Logs.{is_in_grid};
+ghost use Rattle.store_pools.specs.block_pool.Pools.{held};
 ghost use Rattle.store_pools.specs.Pools.{marks_of};
-ghost use Rattle.txn_model.specs.Calls.{rivals_of};
-ghost use Rattle.txn_model.specs.Pieces.{pieces};
+ghost use Rattle.store_pools.specs.txn_model.Calls.{rivals_of};
+ghost use Rattle.store_pools.specs.txn_model.Pieces.{pieces};
 ghost use Rattle.txn_log.specs.Counts.{begins_page, free_after, piece_size, change_sizes, pages_needed, capped};
 ghost use Rattle.txn_log.specs.Counting.{counted, imaged_in};
 
 use crate::acts::{MOST, PIECES};
 use crate::rivals::{rival, rival_count};
-use block_pool::Pool;
-use disk_model::{Block, Change};
-use log_area::LogArea;
 use std::alloc::{AllocError, Global};
-use store_pools::Mark;
+use store_pools::{Block, Change, LogArea, Mark, Pool};
 
 // How far pages are filled: the offset of the first free byte of the last one, and how many were
 // begun.

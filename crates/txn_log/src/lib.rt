@@ -17,3 +17,7 @@ pub use appending::{append_acts, append_commit};
 pub use counting::pages_for;
 pub use laws::pages_are_enough;
 pub use rivals::{rival, rival_count};
+pub use store_pools::{
+    Act, Block, Device, KeptBody, LogArea, LogPlace, Mark, Pool, Turns, changed, mark_commits,
+    ousted, put_bytes, restore, settle,
+};

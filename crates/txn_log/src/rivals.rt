@@ -1,11 +1,11 @@
 //! The rivals of a block.
 ghost use Rattle.std.specs.Prelude.{◌≡◌, ◌<◌, ◌+◌, ◌/◌, ◌%◌, ◌^◌, true, ◌∷◌, [], ◌++◌, get_or, length, map};
 ghost use Rattle.std.specs.List.{range_with_len};
-ghost use Rattle.disk_model.specs.declared.block.Block.{Block as BlockOf};
-ghost use Rattle.log_model.specs.Logs.{is_in_grid};
-ghost use Rattle.txn_model.specs.Calls.{plain_at, record_at, index_at, rivals_of};
+ghost use Rattle.store_pools.specs.disk_model.declared.block.Block.{Block as BlockOf};
+ghost use Rattle.store_pools.specs.log_model.Logs.{is_in_grid};
+ghost use Rattle.store_pools.specs.txn_model.Calls.{plain_at, record_at, index_at, rivals_of};
 
-use disk_model::{Block, BlockKind};
+use store_pools::{Block, BlockKind};
 
 fn plain_at(first: u64) -> Block
     ensures { result ≡ plain_at first }

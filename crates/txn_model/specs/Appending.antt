@@ -1,9 +1,9 @@
 -- Entries that may be appended to a log, one behind the other.
 use Rattle.std.specs.Prelude.{◌≡◌, ◌⊎◌, ℕ, ◌^◌, ◌<◌, false, List, [], ◌∷◌}
-use Rattle.log_model.specs.declared.entry.Entry.{Entry}
-use Rattle.log_model.specs.declared.entry.Act.{Act}
-use Rattle.log_model.specs.Entries.{entry_size, FitsEntry}
-use Rattle.log_page.specs.Places.{sequence_bits}
+use Rattle.log_area.specs.log_model.declared.entry.Entry.{Entry}
+use Rattle.log_area.specs.log_model.declared.entry.Act.{Act}
+use Rattle.log_area.specs.log_model.Entries.{entry_size, FitsEntry}
+use Rattle.log_area.specs.log_page.Places.{sequence_bits}
 use Rattle.log_area.specs.Areas.{LogAreaOf, lap_at, next_number, needs_page, free_pages, appended}
 use Rattle.txn_model.specs.Pieces.{next_entry}
 

@@ -2,15 +2,15 @@
 use Rattle.std.specs.Prelude.{◌≡◌, ℕ, suc, ◌+◌, ◌-◌, ◌*◌, ◌/◌, ◌≤◌, ◌==◌, ◌&&◌, ◌||◌, not, nat_le, Bool, true, false, if◌then◌else◌, List, [], ◌∷◌, ◌++◌, map, replicate, slice_index, Option, Some, None, is_some, unwrap_or}
 use Rattle.std.specs.List.{list_any, range_with_len}
 use Rattle.std.specs.Option.{option_or}
-use Rattle.disk_model.specs.declared.block.Block.{Block}
-use Rattle.disk_model.specs.declared.block.Body.{Body}
-use Rattle.disk_model.specs.declared.block.BlockKind.{BlockKind}
-use Rattle.disk_model.specs.declared.block.BlockKind.TheVariants.{Plain, FileRec, Index}
-use Rattle.disk_model.specs.Bytes.{written}
-use Rattle.disk_model.specs.Sectors.{same_block, are_rivals}
-use Rattle.log_model.specs.declared.entry.Act.{Act}
-use Rattle.log_model.specs.declared.entry.Act.TheVariants.{Commit}
-use Rattle.log_page.specs.declared.places.LogPlace.{LogPlace}
+use Rattle.log_area.specs.disk_model.declared.block.Block.{Block}
+use Rattle.log_area.specs.disk_model.declared.block.Body.{Body}
+use Rattle.log_area.specs.disk_model.declared.block.BlockKind.{BlockKind}
+use Rattle.log_area.specs.disk_model.declared.block.BlockKind.TheVariants.{Plain, FileRec, Index}
+use Rattle.log_area.specs.disk_model.Bytes.{written}
+use Rattle.log_area.specs.disk_model.Sectors.{same_block, are_rivals}
+use Rattle.log_area.specs.log_model.declared.entry.Act.{Act}
+use Rattle.log_area.specs.log_model.declared.entry.Act.TheVariants.{Commit}
+use Rattle.log_area.specs.log_page.declared.places.LogPlace.{LogPlace}
 use Rattle.log_area.specs.Areas.{LogAreaOf, ring_size, place_at, number_lsn, page_to_send, sealed_area, written_area, synced_area, named_area}
 use Rattle.txn_model.specs.declared.mark.Mark.{Mark}
 use Rattle.txn_model.specs.Values.{no_mark, StoreFacts, put_at, take_at}

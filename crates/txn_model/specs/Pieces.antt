@@ -1,12 +1,12 @@
 -- The entries of a change, and the log with them.
 use Rattle.std.specs.Prelude.{ℕ, zero, suc, ◌+◌, ◌-◌, ◌*◌, ◌==◌, min, Bool, true, false, if◌then◌else◌, List, [], ◌∷◌, length, map, slice_set}
-use Rattle.disk_model.specs.declared.block.Block.{Block}
-use Rattle.disk_model.specs.Bytes.{part, written}
-use Rattle.disk_model.specs.Sectors.{sectors}
-use Rattle.log_model.specs.declared.entry.Entry.{Entry}
-use Rattle.log_model.specs.declared.entry.Act.{Act}
-use Rattle.log_model.specs.declared.entry.Act.TheVariants.{Update}
-use Rattle.log_model.specs.Entries.{most_bytes, act_size}
+use Rattle.log_area.specs.disk_model.declared.block.Block.{Block}
+use Rattle.log_area.specs.disk_model.Bytes.{part, written}
+use Rattle.log_area.specs.disk_model.Sectors.{sectors}
+use Rattle.log_area.specs.log_model.declared.entry.Entry.{Entry}
+use Rattle.log_area.specs.log_model.declared.entry.Act.{Act}
+use Rattle.log_area.specs.log_model.declared.entry.Act.TheVariants.{Update}
+use Rattle.log_area.specs.log_model.Entries.{most_bytes, act_size}
 use Rattle.log_area.specs.Areas.{LogAreaOf, next_lsn, place_at, appended}
 use Rattle.block_pool.specs.Numbers.{kind_number}
 

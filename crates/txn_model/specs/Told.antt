@@ -1,7 +1,7 @@
 -- What a store tells of itself, and when its next step may be taken.
 use Rattle.std.specs.Prelude.{◌≡◌, ℕ, ◌+◌, ◌-◌, ◌^◌, min, ◌<◌, ◌≤◌, ◌&&◌, ◌||◌, not, nat_lt, Bool, true, false, if◌then◌else◌, List, length, count_by, Some, None, IfSome, is_some, unwrap_or}
-use Rattle.disk_model.specs.declared.block.Block.{Block}
-use Rattle.disk_model.specs.Sectors.{same_block}
+use Rattle.log_area.specs.disk_model.declared.block.Block.{Block}
+use Rattle.log_area.specs.disk_model.Sectors.{same_block}
 use Rattle.block_pool.specs.Numbers.{block_number}
 use Rattle.log_area.specs.Areas.{is_filling, used_pages, ring_size, next_lsn}
 use Rattle.flush_policy.specs.declared.facts.Facts.{Facts}

@@ -1,11 +1,11 @@
 -- What a store keeps, by blocks: the bodies that aren't the disk's, what is marked of each block, and the counts of commits.
 use Rattle.std.specs.Prelude.{ℕ, ◌||◌, Bool, false, if◌then◌else◌, List, Option, Some, None}
 use Rattle.std.specs.List.{list_any, range_with_len}
-use Rattle.disk_model.specs.declared.block.Block.{Block}
-use Rattle.disk_model.specs.declared.block.Body.{Body}
-use Rattle.disk_model.specs.Sectors.{sectors, same_block}
-use Rattle.sector_device.specs.Disks.{is_within}
-use Rattle.log_page.specs.declared.places.LogPlace.{LogPlace}
+use Rattle.log_area.specs.disk_model.declared.block.Block.{Block}
+use Rattle.log_area.specs.disk_model.declared.block.Body.{Body}
+use Rattle.log_area.specs.disk_model.Sectors.{sectors, same_block}
+use Rattle.log_area.specs.sector_device.Disks.{is_within}
+use Rattle.log_area.specs.log_page.declared.places.LogPlace.{LogPlace}
 use Rattle.log_area.specs.Areas.{LogAreaOf, page_first}
 use Rattle.txn_model.specs.declared.mark.Mark.{Mark}
 

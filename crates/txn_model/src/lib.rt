@@ -7,4 +7,7 @@
 
 mod mark;
 
+pub use block_pool::{Pool, Tests, Turns};
+pub use flush_policy::{Facts, StoreStep};
+pub use log_area::{Act, Block, BlockKind, Change, Device, Entry, LogArea, LogPlace, put_bytes};
 pub use mark::Mark;

@@ -9,13 +9,13 @@ use Rattle.fixup_record.specs.Spellings.{has_spelling}
 use Rattle.sector_device.specs.Disks.{Disk, IsSettled, MayHold, newest, seen}
 use Rattle.log_model.specs.declared.entry.Entry.{Entry}
 use Rattle.log_model.specs.Logs.{is_shadowed, is_covered_whole, is_other, is_written_out, is_partial, first_partial, recovered}
-use Rattle.log_page.specs.declared.places.LogPlace.{LogPlace}
-use Rattle.log_page.specs.Places.{first_page, lap_of}
-use Rattle.log_page.specs.LiveLogs.{said_lsn}
-use Rattle.log_laws.specs.NextLaps.{IsSaid}
-use Rattle.log_reading.specs.Fronts.{front_in}
-use Rattle.log_reading.specs.LogPages.{page_in}
-use Rattle.log_reading.specs.Rings.{IsRingPlace}
+use Rattle.txn_core.specs.log_page.declared.places.LogPlace.{LogPlace}
+use Rattle.txn_core.specs.log_page.Places.{first_page, lap_of}
+use Rattle.txn_core.specs.log_page.LiveLogs.{said_lsn}
+use Rattle.txn_core.specs.log_laws.NextLaps.{IsSaid}
+use Rattle.log_recovery.specs.log_reading.Fronts.{front_in}
+use Rattle.log_recovery.specs.log_reading.LogPages.{page_in}
+use Rattle.log_recovery.specs.log_reading.Rings.{IsRingPlace}
 use Rattle.log_recovery.specs.LogStates.{LogState}
 use Rattle.log_recovery.specs.Writing.{is_spelled, is_put_out}
 use Rattle.store_model.specs.Logs.{has_update}
@@ -23,13 +23,13 @@ use Rattle.store_model.specs.Geometry.{SectorBytes, CanLeave}
 use Rattle.store_model.specs.Volumes.{is_known, AreWhole, IsRecovered}
 use Rattle.store_model.proofs.Known.{own_content}
 use Rattle.store_model.proofs.Told.{true≢false}
-use Rattle.ring_laws.specs.PageBytes.{page_sector, raw_page, IsStill, AreAlike}
-use Rattle.ring_laws.proofs.LogSectors.{read_is_raw, raw_same}
-use Rattle.ring_laws.proofs.SeenDisks.{other_same, partial_same, written_same, written_updated}
-use Rattle.txn_laws.specs.Mounting.{IsMounting}
-use Rattle.txn_laws.proofs.Mounting.{mounts_go_on_law}
-use Rattle.txn_laws.proofs.Syncs.{and_left, and_right}
-use Rattle.txn_model.specs.Values.{is_own}
+use Rattle.txn_core.specs.ring_laws.PageBytes.{page_sector, raw_page, IsStill, AreAlike}
+use Rattle.txn_core.proofs.ring_laws.LogSectors.{read_is_raw, raw_same}
+use Rattle.txn_core.proofs.ring_laws.SeenDisks.{other_same, partial_same, written_same, written_updated}
+use Rattle.txn_core.specs.txn_laws.Mounting.{IsMounting}
+use Rattle.txn_core.proofs.txn_laws.Mounting.{mounts_go_on_law}
+use Rattle.txn_core.proofs.txn_laws.Syncs.{and_left, and_right}
+use Rattle.txn_core.specs.txn_model.Values.{is_own}
 use Rattle.txn_mount.specs.Contents.{mounted_content, stays_torn, UpdatesKnown, ReadsLog, ReadsWell}
 use Rattle.txn_mount.specs.Images.{RecoversAlike, Spares, MountsOn, IsMountedAs}
 use Rattle.txn_mount.proofs.Frames.{entries_alike, none_partial, updated_whole}

@@ -12,34 +12,34 @@ use Rattle.sector_device.specs.Disks.{Disk, IsBetween, IsSized, is_within, newes
 use Rattle.sector_device.specs.Sectors.{sectors_of, sector_in}
 use Rattle.sector_device.specs.WholeSectors.{length-sectors_of}
 use Rattle.sector_device.specs.Moments.{Changes}
-use Rattle.log_page.specs.declared.places.LogPlace.{LogPlace}
-use Rattle.log_page.specs.declared.restart.Restart.{Restart}
-use Rattle.log_page.specs.Places.{lap_of, page_of}
-use Rattle.log_page.specs.LiveLogs.{said_lsn}
-use Rattle.log_page.specs.Restarts.{restart_spelling, whole_one}
-use Rattle.log_page.proofs.Spelled.{length-restart_spelling}
-use Rattle.log_page.proofs.ReadAgain.{read_again}
-use Rattle.log_reading.specs.Rings.{IsRingPlace}
+use Rattle.txn_core.specs.log_page.declared.places.LogPlace.{LogPlace}
+use Rattle.txn_core.specs.log_page.declared.restart.Restart.{Restart}
+use Rattle.txn_core.specs.log_page.Places.{lap_of, page_of}
+use Rattle.txn_core.specs.log_page.LiveLogs.{said_lsn}
+use Rattle.txn_core.specs.log_page.Restarts.{restart_spelling, whole_one}
+use Rattle.txn_core.proofs.log_page.Spelled.{length-restart_spelling}
+use Rattle.txn_core.proofs.log_page.ReadAgain.{read_again}
+use Rattle.log_recovery.specs.log_reading.Rings.{IsRingPlace}
 use Rattle.log_recovery.specs.LogStates.{LogState}
-use Rattle.log_area.specs.Areas.{LogAreaOf, new_area, number_of, page_to_send}
+use Rattle.txn_core.specs.log_area.Areas.{LogAreaOf, new_area, number_of, page_to_send}
 use Rattle.store_model.proofs.Known.{is_in}
-use Rattle.ring_laws.specs.Numbers.{LogSession}
-use Rattle.ring_laws.specs.PageBytes.{page_sector, raw_page, AreAlike}
-use Rattle.ring_laws.specs.RestartPages.{IsBelow, said_restart, found_restarts}
-use Rattle.ring_laws.specs.RingPages.{first_ring}
-use Rattle.ring_laws.proofs.Numbering.{says_lap, says_page}
-use Rattle.ring_laws.proofs.RingFacts.{has_ring, log_small}
-use Rattle.ring_laws.proofs.LogSectors.{read_is_raw, raw_same, kept_by_page}
-use Rattle.ring_laws.proofs.Mixing.{sector_of_bytes, page_is}
-use Rattle.ring_laws.proofs.RestartCalls.{finds}
-use Rattle.area_laws.specs.Standing.{Stands}
-use Rattle.area_laws.proofs.Calling.{ring_starts}
-use Rattle.area_laws.proofs.Reading.{is_first}
-use Rattle.area_laws.proofs.Rising.{lap_below}
-use Rattle.txn_laws.specs.Laws.{first_lsn, opened_area}
-use Rattle.txn_laws.specs.Windows.{HasStart}
-use Rattle.txn_laws.proofs.Starts.{starts_window}
-use Rattle.txn_model.specs.Calls.{first_facts}
+use Rattle.txn_core.specs.ring_laws.Numbers.{LogSession}
+use Rattle.txn_core.specs.ring_laws.PageBytes.{page_sector, raw_page, AreAlike}
+use Rattle.txn_core.specs.ring_laws.RestartPages.{IsBelow, said_restart, found_restarts}
+use Rattle.txn_core.specs.ring_laws.RingPages.{first_ring}
+use Rattle.txn_core.proofs.ring_laws.Numbering.{says_lap, says_page}
+use Rattle.txn_core.proofs.ring_laws.RingFacts.{has_ring, log_small}
+use Rattle.txn_core.proofs.ring_laws.LogSectors.{read_is_raw, raw_same, kept_by_page}
+use Rattle.txn_core.proofs.ring_laws.Mixing.{sector_of_bytes, page_is}
+use Rattle.txn_core.proofs.ring_laws.RestartCalls.{finds}
+use Rattle.txn_core.specs.area_laws.Standing.{Stands}
+use Rattle.txn_core.proofs.area_laws.Calling.{ring_starts}
+use Rattle.txn_core.proofs.area_laws.Reading.{is_first}
+use Rattle.txn_core.proofs.area_laws.Rising.{lap_below}
+use Rattle.txn_core.specs.txn_laws.Laws.{first_lsn, opened_area}
+use Rattle.txn_core.specs.txn_laws.Windows.{HasStart}
+use Rattle.txn_core.proofs.txn_laws.Starts.{starts_window}
+use Rattle.txn_core.specs.txn_model.Calls.{first_facts}
 use Rattle.txn_mount.specs.Contents.{ReadsLog, ReadsWell}
 use Rattle.txn_mount.proofs.Finding.{found, laps_below, lap_some, lap_small, opens_small}
 

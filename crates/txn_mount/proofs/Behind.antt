@@ -8,13 +8,13 @@ use Rattle.disk_model.specs.Content.{Content, content_of}
 use Rattle.disk_model.specs.Sectors.{sector_of}
 use Rattle.sector_device.specs.Disks.{Disk, IsSized, SeesDisk, AreOver, MayLeave, Past, WasLeft, seen}
 use Rattle.sector_device.specs.Moments.{Changes, LeftSince}
-use Rattle.device_view.specs.Devices.{KeepsDevice}
+use Rattle.log_recovery.specs.device_view.Devices.{KeepsDevice}
 use Rattle.log_model.specs.declared.entry.Entry.{Entry}
-use Rattle.log_page.specs.declared.places.LogPlace.{LogPlace}
-use Rattle.log_page.specs.Places.{sequence_bits}
-use Rattle.log_reading.specs.Rings.{IsRingPlace}
-use Rattle.log_reading.specs.declared.fault.LogRefusal.{LogRefusal}
-use Rattle.log_area.specs.Areas.{LogAreaOf, IsOldest, new_area, named_area, synced_area, lap_at, next_number, ring_size}
+use Rattle.txn_core.specs.log_page.declared.places.LogPlace.{LogPlace}
+use Rattle.txn_core.specs.log_page.Places.{sequence_bits}
+use Rattle.log_recovery.specs.log_reading.Rings.{IsRingPlace}
+use Rattle.log_recovery.specs.log_reading.declared.fault.LogRefusal.{LogRefusal}
+use Rattle.txn_core.specs.log_area.Areas.{LogAreaOf, IsOldest, new_area, named_area, synced_area, lap_at, next_number, ring_size}
 use Rattle.log_recovery.specs.declared.found.Shadow.{Shadow}
 use Rattle.log_recovery.specs.declared.found.RecoveredBlock.{RecoveredBlock}
 use Rattle.log_recovery.specs.declared.writing.ToWrite.{ToWrite}
@@ -23,12 +23,12 @@ use Rattle.log_recovery.specs.Writing.{state_with, to_write_in}
 use Rattle.txn_core.specs.Kept.{IsBegun}
 use Rattle.txn_core.specs.Openings.{StartsThen}
 use Rattle.txn_core.proofs.FirstPages.{first_begun, first_lap, oldest_place}
-use Rattle.txn_laws.specs.Mounting.{HasMounted}
-use Rattle.txn_model.specs.Values.{StoreFacts}
-use Rattle.txn_model.specs.Calls.{first_facts}
+use Rattle.txn_core.specs.txn_laws.Mounting.{HasMounted}
+use Rattle.txn_core.specs.txn_model.Values.{StoreFacts}
+use Rattle.txn_core.specs.txn_model.Calls.{first_facts}
 use Rattle.txn_mount.specs.declared.fault.StoreFault.{StoreFault}
 use Rattle.txn_mount.specs.declared.fault.StoreFault.TheVariants.{Fault}
-use Rattle.txn_state.specs.States.{facts_of}
+use Rattle.txn_core.specs.txn_state.States.{facts_of}
 use Rattle.txn_mount.specs.declared.mounting.Mounted.{Mounted}
 use Rattle.txn_mount.specs.declared.puts.PutOut.{PutOut}
 use Rattle.txn_mount.specs.declared.room.MountPlan.{MountPlan}

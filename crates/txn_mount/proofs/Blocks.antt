@@ -11,10 +11,10 @@ use Rattle.fixup_record.specs.Spellings.{has_spelling}
 use Rattle.sector_device.specs.Disks.{is_within}
 use Rattle.log_model.specs.declared.entry.Entry.{Entry}
 use Rattle.log_model.specs.Logs.{updates, is_shadowed, is_covered_whole, is_other, is_written_out, is_partial, recovered}
-use Rattle.log_page.specs.declared.places.LogPlace.{LogPlace}
-use Rattle.log_reading.specs.LogPages.{log_sector}
-use Rattle.log_reading.specs.Rings.{IsRingPlace}
-use Rattle.log_area.specs.Areas.{page_first}
+use Rattle.txn_core.specs.log_page.declared.places.LogPlace.{LogPlace}
+use Rattle.log_recovery.specs.log_reading.LogPages.{log_sector}
+use Rattle.log_recovery.specs.log_reading.Rings.{IsRingPlace}
+use Rattle.txn_core.specs.log_area.Areas.{page_first}
 use Rattle.log_recovery.specs.LogStates.{LogState}
 use Rattle.log_recovery.specs.Own.{is_in_block, is_in_log}
 use Rattle.log_recovery.specs.Own.{is_own as is_own_block}
@@ -22,11 +22,11 @@ use Rattle.log_recovery.specs.Writing.{is_spelled, is_put_out, is_barred}
 use Rattle.store_model.specs.Logs.{has_update}
 use Rattle.store_model.specs.Volumes.{is_free, is_known}
 use Rattle.store_model.proofs.Known.{within_is}
-use Rattle.ring_laws.specs.PageBytes.{page_sector}
-use Rattle.ring_laws.proofs.LogSectors.{lies_in_row}
-use Rattle.ring_laws.proofs.SeenDisks.{written_updated}
-use Rattle.txn_laws.proofs.Syncs.{and_left, and_right}
-use Rattle.txn_model.specs.Values.{is_own}
+use Rattle.txn_core.specs.ring_laws.PageBytes.{page_sector}
+use Rattle.txn_core.proofs.ring_laws.LogSectors.{lies_in_row}
+use Rattle.txn_core.proofs.ring_laws.SeenDisks.{written_updated}
+use Rattle.txn_core.proofs.txn_laws.Syncs.{and_left, and_right}
+use Rattle.txn_core.specs.txn_model.Values.{is_own}
 use Rattle.txn_mount.specs.Contents.{ReadsLog, ReadsWell}
 use Rattle.txn_mount.proofs.Frames.{updated_whole, updated_none}
 use Rattle.txn_mount.proofs.Starting.{out_written}

@@ -20,15 +20,15 @@ use Rattle.log_model.specs.declared.entry.Entry.{Entry}
 use Rattle.log_model.specs.declared.entry.Act.{Act}
 use Rattle.log_model.specs.declared.entry.Act.TheVariants.{Update, Commit}
 use Rattle.log_model.specs.Logs.{updates, block_of_kind, kind_of, may_begin, is_misplaced, first_misplaced, is_written_out, is_other, recovered}
-use Rattle.log_page.specs.declared.places.LogPlace.{LogPlace}
-use Rattle.log_page.specs.declared.restart.Restart.{Restart}
-use Rattle.log_page.specs.RecordPages.{Reading}
-use Rattle.log_page.specs.LiveLogs.{live_log}
-use Rattle.log_page.specs.Restarts.{is_clean}
-use Rattle.log_reading.specs.declared.fault.LogRefusal.{LogRefusal}
-use Rattle.log_reading.specs.declared.fault.LogRefusal.TheVariants.{ForeignLog}
-use Rattle.log_reading.specs.LogPages.{page_in}
-use Rattle.log_reading.specs.Rings.{IsRingPlace}
+use Rattle.txn_core.specs.log_page.declared.places.LogPlace.{LogPlace}
+use Rattle.txn_core.specs.log_page.declared.restart.Restart.{Restart}
+use Rattle.txn_core.specs.log_page.RecordPages.{Reading}
+use Rattle.txn_core.specs.log_page.LiveLogs.{live_log}
+use Rattle.txn_core.specs.log_page.Restarts.{is_clean}
+use Rattle.log_recovery.specs.log_reading.declared.fault.LogRefusal.{LogRefusal}
+use Rattle.log_recovery.specs.log_reading.declared.fault.LogRefusal.TheVariants.{ForeignLog}
+use Rattle.log_recovery.specs.log_reading.LogPages.{page_in}
+use Rattle.log_recovery.specs.log_reading.Rings.{IsRingPlace}
 use Rattle.log_recovery.specs.declared.found.RecoveredBlock.{RecoveredBlock}
 use Rattle.log_recovery.specs.declared.found.RecoveredBlocks.{RecoveredBlocks}
 use Rattle.log_recovery.specs.LogStates.{LogState, own_entries, entries_by, live_entries_in}
@@ -36,8 +36,8 @@ use Rattle.log_recovery.specs.Recovering.{held_body, body_block, written_body, A
 use Rattle.log_recovery.specs.Writing.{is_spelled, is_put_out, to_write_in}
 use Rattle.store_model.specs.Logs.{has_update}
 use Rattle.store_model.proofs.Told.{true≢false, same_self}
-use Rattle.txn_laws.specs.Laws.{first_lsn}
-use Rattle.txn_laws.proofs.Syncs.{and_left, and_right}
+use Rattle.txn_core.specs.txn_laws.Laws.{first_lsn}
+use Rattle.txn_core.proofs.txn_laws.Syncs.{and_left, and_right}
 use Rattle.txn_mount.specs.declared.puts.PutOut.{PutOut}
 use Rattle.txn_mount.specs.Contents.{ReadsLog, ReadsWell}
 use Rattle.txn_mount.specs.Images.{IsItem, AreItems, left_of}

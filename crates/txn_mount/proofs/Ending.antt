@@ -14,30 +14,30 @@ use Rattle.sector_device.specs.Sectors.{sectors_of}
 use Rattle.sector_device.specs.WholeSectors.{length-sectors_of}
 use Rattle.sector_device.specs.Moments.{Changes, MayLeaveNow, Remembers, moment_after}
 use Rattle.sector_device.proofs.Images.{holds_seen}
-use Rattle.log_page.specs.declared.places.LogPlace.{LogPlace}
-use Rattle.log_page.specs.Restarts.{restart_spelling}
+use Rattle.txn_core.specs.log_page.declared.places.LogPlace.{LogPlace}
+use Rattle.txn_core.specs.log_page.Restarts.{restart_spelling}
 use Rattle.log_recovery.specs.LogStates.{LogState}
 use Rattle.log_recovery.specs.Writing.{is_put_out}
 use Rattle.log_recovery.specs.declared.found.RecoveredBlock.{RecoveredBlock}
-use Rattle.log_area.specs.Areas.{LogAreaOf, new_area, restart_sector, page_to_send, named_area}
-use Rattle.log_area.specs.Calls.{SentOrAsked}
+use Rattle.txn_core.specs.log_area.Areas.{LogAreaOf, new_area, restart_sector, page_to_send, named_area}
+use Rattle.txn_core.specs.log_area.Calls.{SentOrAsked}
 use Rattle.store_model.specs.Geometry.{SectorBytes, CanLeave}
 use Rattle.store_model.specs.Rings.{Restarts}
 use Rattle.store_model.specs.Volumes.{AreWhole}
-use Rattle.ring_laws.specs.Numbers.{LogSession}
-use Rattle.ring_laws.specs.PageBytes.{page_sector, raw_page, AreAlike}
-use Rattle.ring_laws.specs.RestartPages.{RestartFields, said_restart, found_restarts, restart_written, restart_sent}
-use Rattle.ring_laws.specs.RingPages.{first_ring}
-use Rattle.area_laws.specs.Standing.{Stands}
-use Rattle.area_laws.specs.Laws.{IsKnown, SendsRestart, MayName, RestartsStandAfter}
-use Rattle.area_laws.proofs.Naming.{restart_names, restart_fails}
-use Rattle.area_laws.proofs.Calling.{torn_known}
-use Rattle.txn_laws.specs.Laws.{first_lsn, opened_area, SyncsNow}
-use Rattle.txn_laws.specs.Mounting.{HasMounted}
-use Rattle.txn_laws.proofs.Mounting.{mounts_go_on_law}
-use Rattle.txn_laws.proofs.WriteOuts.{spelled_length}
-use Rattle.txn_model.specs.Values.{is_own}
-use Rattle.txn_model.specs.Calls.{first_facts}
+use Rattle.txn_core.specs.ring_laws.Numbers.{LogSession}
+use Rattle.txn_core.specs.ring_laws.PageBytes.{page_sector, raw_page, AreAlike}
+use Rattle.txn_core.specs.ring_laws.RestartPages.{RestartFields, said_restart, found_restarts, restart_written, restart_sent}
+use Rattle.txn_core.specs.ring_laws.RingPages.{first_ring}
+use Rattle.txn_core.specs.area_laws.Standing.{Stands}
+use Rattle.txn_core.specs.area_laws.Laws.{IsKnown, SendsRestart, MayName, RestartsStandAfter}
+use Rattle.txn_core.proofs.area_laws.Naming.{restart_names, restart_fails}
+use Rattle.txn_core.proofs.area_laws.Calling.{torn_known}
+use Rattle.txn_core.specs.txn_laws.Laws.{first_lsn, opened_area, SyncsNow}
+use Rattle.txn_core.specs.txn_laws.Mounting.{HasMounted}
+use Rattle.txn_core.proofs.txn_laws.Mounting.{mounts_go_on_law}
+use Rattle.txn_core.proofs.txn_laws.WriteOuts.{spelled_length}
+use Rattle.txn_core.specs.txn_model.Values.{is_own}
+use Rattle.txn_core.specs.txn_model.Calls.{first_facts}
 use Rattle.txn_core.proofs.FirstPages.{first_oldest, first_lap}
 use Rattle.txn_mount.specs.Contents.{mounted_content, ReadsLog, ReadsWell}
 use Rattle.txn_mount.specs.Images.{RecoversAlike, LeavesAlike, OneIsNewer, IsItem, AreItems, left_of}
@@ -50,7 +50,7 @@ use Rattle.txn_mount.proofs.Blocks.{out_known}
 use Rattle.txn_mount.proofs.Putting.{alike_on, after_later, fewer_left, all_put, all_fail, sync_well, sync_fails, leaves_on, leaves_call, leaves_same, Stage, sized_disk, whole_image}
 use Rattle.txn_mount.proofs.Naming.{first_placed, stands, named_on, alike_named}
 use Rattle.txn_mount.proofs.Beginning.{begins_on, restart_inside}
-use Rattle.txn_laws.specs.Windows.{HasStart}
+use Rattle.txn_core.specs.txn_laws.Windows.{HasStart}
 
 some_disk : (a b : Disk) → Some a ≡ Some b → a ≡ b
 some_disk a b e = cc

@@ -5,30 +5,30 @@ use Rattle.std.proofs.lemmas.Bool.{ltb-true}
 use Rattle.host_base.specs.Answers.{needs}
 use Rattle.disk_model.specs.declared.block.Block.{Block}
 use Rattle.disk_model.specs.Content.{Content, content_of}
-use Rattle.log_page.specs.declared.fault.PageFault.{PageFault}
-use Rattle.log_page.specs.declared.places.LogPlace.{LogPlace}
-use Rattle.log_page.specs.declared.restart.Restart.{Restart}
-use Rattle.log_page.specs.Places.{lap_of, sequence_bits}
-use Rattle.log_page.specs.Restarts.{restart_of, is_newer, is_second_chosen, whole_one, chosen, is_blank, is_emptied}
-use Rattle.log_page.specs.LiveLogs.{said_lsn, greatest_lsn, lap_above, next_lap}
-use Rattle.log_laws.specs.NextLaps.{IsSaid}
-use Rattle.log_laws.proofs.Fresh.{above}
-use Rattle.log_reading.specs.declared.fault.LogRefusal.{LogRefusal}
-use Rattle.log_reading.specs.declared.fault.LogRefusal.TheVariants.{ForeignLog, NoRestart}
-use Rattle.log_reading.specs.declared.front.RestartFront.{RestartFront}
-use Rattle.log_reading.specs.Fronts.{chosen_in, next_restart, next_opens, is_readable, front_in}
-use Rattle.log_reading.specs.LogPages.{page_in}
-use Rattle.log_reading.specs.Rings.{IsRingPlace}
+use Rattle.txn_core.specs.log_page.declared.fault.PageFault.{PageFault}
+use Rattle.txn_core.specs.log_page.declared.places.LogPlace.{LogPlace}
+use Rattle.txn_core.specs.log_page.declared.restart.Restart.{Restart}
+use Rattle.txn_core.specs.log_page.Places.{lap_of, sequence_bits}
+use Rattle.txn_core.specs.log_page.Restarts.{restart_of, is_newer, is_second_chosen, whole_one, chosen, is_blank, is_emptied}
+use Rattle.txn_core.specs.log_page.LiveLogs.{said_lsn, greatest_lsn, lap_above, next_lap}
+use Rattle.txn_core.specs.log_laws.NextLaps.{IsSaid}
+use Rattle.txn_core.proofs.log_laws.Fresh.{above}
+use Rattle.log_recovery.specs.log_reading.declared.fault.LogRefusal.{LogRefusal}
+use Rattle.log_recovery.specs.log_reading.declared.fault.LogRefusal.TheVariants.{ForeignLog, NoRestart}
+use Rattle.log_recovery.specs.log_reading.declared.front.RestartFront.{RestartFront}
+use Rattle.log_recovery.specs.log_reading.Fronts.{chosen_in, next_restart, next_opens, is_readable, front_in}
+use Rattle.log_recovery.specs.log_reading.LogPages.{page_in}
+use Rattle.log_recovery.specs.log_reading.Rings.{IsRingPlace}
 use Rattle.log_recovery.specs.LogStates.{LogState, has_lap, lap_by, lap_in}
-use Rattle.log_area.specs.Areas.{new_area}
+use Rattle.txn_core.specs.log_area.Areas.{new_area}
 use Rattle.sector_device.specs.Disks.{Disk, IsSized, seen}
-use Rattle.ring_laws.specs.PageBytes.{raw_page, IsStill}
-use Rattle.ring_laws.specs.RestartPages.{IsBelow, said_restart, found_restarts}
-use Rattle.ring_laws.specs.RingPages.{first_ring}
-use Rattle.ring_laws.proofs.LogSectors.{read_is_raw}
-use Rattle.area_laws.specs.Standing.{Stands}
-use Rattle.area_laws.proofs.Joined.{starts}
-use Rattle.txn_laws.proofs.Syncs.{and_right}
+use Rattle.txn_core.specs.ring_laws.PageBytes.{raw_page, IsStill}
+use Rattle.txn_core.specs.ring_laws.RestartPages.{IsBelow, said_restart, found_restarts}
+use Rattle.txn_core.specs.ring_laws.RingPages.{first_ring}
+use Rattle.txn_core.proofs.ring_laws.LogSectors.{read_is_raw}
+use Rattle.txn_core.specs.area_laws.Standing.{Stands}
+use Rattle.txn_core.proofs.area_laws.Joined.{starts}
+use Rattle.txn_core.proofs.txn_laws.Syncs.{and_right}
 use Rattle.txn_mount.specs.Contents.{ReadsLog}
 use Rattle.txn_mount.specs.Images.{OneIsNewer}
 use Rattle.txn_mount.proofs.Reading.{ok_then}

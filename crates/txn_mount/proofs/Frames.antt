@@ -13,17 +13,17 @@ use Rattle.log_model.specs.declared.entry.Entry.{Entry}
 use Rattle.log_model.specs.declared.entry.Act.{Act}
 use Rattle.log_model.specs.declared.entry.Act.TheVariants.{Update, Commit}
 use Rattle.log_model.specs.Logs.{updates, block_of_kind, is_partial, updates_partial, first_partial}
-use Rattle.log_page.specs.declared.places.LogPlace.{LogPlace}
-use Rattle.log_page.specs.declared.restart.Restart.{Restart}
-use Rattle.log_page.specs.Places.{entries_at, page_lsn, page_after, lap_after, lap_of, page_of, is_in_ring, first_page}
-use Rattle.log_page.specs.RecordPages.{Reading, no_reading, page_reading, is_whole_page}
-use Rattle.log_page.specs.LiveLogs.{followed_by, log_from, live_log, start_in_page}
-use Rattle.log_page.specs.Restarts.{is_clean}
-use Rattle.log_reading.specs.declared.fault.LogRefusal.TheVariants.{ForeignLog}
-use Rattle.log_reading.specs.LogPages.{page_in}
+use Rattle.txn_core.specs.log_page.declared.places.LogPlace.{LogPlace}
+use Rattle.txn_core.specs.log_page.declared.restart.Restart.{Restart}
+use Rattle.txn_core.specs.log_page.Places.{entries_at, page_lsn, page_after, lap_after, lap_of, page_of, is_in_ring, first_page}
+use Rattle.txn_core.specs.log_page.RecordPages.{Reading, no_reading, page_reading, is_whole_page}
+use Rattle.txn_core.specs.log_page.LiveLogs.{followed_by, log_from, live_log, start_in_page}
+use Rattle.txn_core.specs.log_page.Restarts.{is_clean}
+use Rattle.log_recovery.specs.log_reading.declared.fault.LogRefusal.TheVariants.{ForeignLog}
+use Rattle.log_recovery.specs.log_reading.LogPages.{page_in}
 use Rattle.log_recovery.specs.LogStates.{own_entries, entries_by, live_entries_in}
 use Rattle.store_model.specs.Logs.{has_update}
-use Rattle.txn_laws.proofs.Syncs.{and_left, and_right}
+use Rattle.txn_core.proofs.txn_laws.Syncs.{and_left, and_right}
 
 -- pages alike in the ring
 abbrev AlikeInRing : ℕ → (f g : ℕ → List ℕ) → Type 0

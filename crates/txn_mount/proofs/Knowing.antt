@@ -6,13 +6,13 @@ use Rattle.disk_model.specs.declared.block.Block.{Block}
 use Rattle.disk_model.specs.Content.{content_of}
 use Rattle.sector_device.specs.Disks.{Disk, IsSized, SeesDisk, seen}
 use Rattle.sector_device.specs.Moments.{Changes}
-use Rattle.log_page.specs.declared.places.LogPlace.{LogPlace}
-use Rattle.log_reading.specs.declared.fault.LogRefusal.{LogRefusal}
+use Rattle.txn_core.specs.log_page.declared.places.LogPlace.{LogPlace}
+use Rattle.log_recovery.specs.log_reading.declared.fault.LogRefusal.{LogRefusal}
 use Rattle.log_recovery.specs.declared.found.RecoveredBlock.{RecoveredBlock}
 use Rattle.log_recovery.specs.declared.writing.ToWrite.{ToWrite}
 use Rattle.log_recovery.specs.LogStates.{LogState}
 use Rattle.log_recovery.specs.Writing.{to_write_in, IsToWriteBy}
-use Rattle.txn_laws.proofs.Telling.{known_before_write, known_before_sync}
+use Rattle.txn_core.proofs.txn_laws.Telling.{known_before_write, known_before_sync}
 use Rattle.txn_mount.specs.Calls.{PutsAll}
 use Rattle.txn_mount.specs.Laws.{MayMount, FindsOn, ReadsDisk, StartsBehind}
 use Rattle.txn_mount.proofs.Ending.{mounts_recover_law}

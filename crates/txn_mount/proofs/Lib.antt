@@ -1,3 +1,4 @@
+pub use Rattle.txn_core.proofs.txn_laws
 pub mod Reading
 pub mod Frames
 pub mod Finding

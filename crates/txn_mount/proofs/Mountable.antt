@@ -17,41 +17,41 @@ use Rattle.log_model.specs.declared.entry.Entry.{Entry}
 use Rattle.log_model.specs.declared.entry.Act.{Act}
 use Rattle.log_model.specs.declared.entry.Act.TheVariants.{Update, Commit}
 use Rattle.log_model.specs.Logs.{updates, block_of_kind, is_shadowed, is_covered_whole, is_other, is_written_out, first_misplaced, first_partial}
-use Rattle.log_page.specs.declared.places.LogPlace.{LogPlace}
-use Rattle.log_page.specs.declared.restart.Restart.{Restart}
-use Rattle.log_page.specs.Places.{first_page, lap_of, sequence_bits}
-use Rattle.log_page.specs.LiveLogs.{live_log, said_lsn, greatest_lsn, lap_above, next_lap}
-use Rattle.log_page.specs.RecordPages.{Reading}
-use Rattle.log_page.specs.Restarts.{is_clean}
-use Rattle.log_laws.specs.NextLaps.{IsSaid}
-use Rattle.log_laws.proofs.Fresh.{above}
-use Rattle.log_laws.proofs.Greatest.{greatest_found}
-use Rattle.log_reading.specs.declared.fault.LogRefusal.{LogRefusal}
-use Rattle.log_reading.specs.declared.fault.LogRefusal.TheVariants.{LogVersion, ForeignLog}
-use Rattle.log_reading.specs.declared.front.RestartFront.{RestartFront}
-use Rattle.log_reading.specs.Fronts.{chosen_in, is_readable, next_restart, next_opens, front_in}
-use Rattle.log_reading.specs.LogPages.{log_sector, page_in}
-use Rattle.log_reading.specs.Rings.{IsRingPlace}
+use Rattle.txn_core.specs.log_page.declared.places.LogPlace.{LogPlace}
+use Rattle.txn_core.specs.log_page.declared.restart.Restart.{Restart}
+use Rattle.txn_core.specs.log_page.Places.{first_page, lap_of, sequence_bits}
+use Rattle.txn_core.specs.log_page.LiveLogs.{live_log, said_lsn, greatest_lsn, lap_above, next_lap}
+use Rattle.txn_core.specs.log_page.RecordPages.{Reading}
+use Rattle.txn_core.specs.log_page.Restarts.{is_clean}
+use Rattle.txn_core.specs.log_laws.NextLaps.{IsSaid}
+use Rattle.txn_core.proofs.log_laws.Fresh.{above}
+use Rattle.txn_core.proofs.log_laws.Greatest.{greatest_found}
+use Rattle.log_recovery.specs.log_reading.declared.fault.LogRefusal.{LogRefusal}
+use Rattle.log_recovery.specs.log_reading.declared.fault.LogRefusal.TheVariants.{LogVersion, ForeignLog}
+use Rattle.log_recovery.specs.log_reading.declared.front.RestartFront.{RestartFront}
+use Rattle.log_recovery.specs.log_reading.Fronts.{chosen_in, is_readable, next_restart, next_opens, front_in}
+use Rattle.log_recovery.specs.log_reading.LogPages.{log_sector, page_in}
+use Rattle.log_recovery.specs.log_reading.Rings.{IsRingPlace}
 use Rattle.log_recovery.specs.LogStates.{FoundLog, LogState, all_or_refused, own_entries, entries_by, live_entries_in, whole_entries, has_lap, lap_by, lap_in, log_in, recovery_in}
 use Rattle.log_recovery.specs.Own.{is_in_block, is_in_log}
 use Rattle.log_recovery.specs.Own.{is_own as is_own_block}
 use Rattle.log_recovery.specs.Writing.{is_spelled, is_put_out, is_barred, updates_such, first_update, unless_foreign, to_write_in}
-use Rattle.log_area.specs.Areas.{page_first}
-use Rattle.ring_laws.specs.PageBytes.{page_sector, raw_page}
-use Rattle.ring_laws.proofs.LogSectors.{lies_in_row, read_is_raw}
-use Rattle.ring_laws.proofs.SeenDisks.{not_own, written_updated}
+use Rattle.txn_core.specs.log_area.Areas.{page_first}
+use Rattle.txn_core.specs.ring_laws.PageBytes.{page_sector, raw_page}
+use Rattle.txn_core.proofs.ring_laws.LogSectors.{lies_in_row, read_is_raw}
+use Rattle.txn_core.proofs.ring_laws.SeenDisks.{not_own, written_updated}
 use Rattle.store_model.specs.Geometry.{SectorBytes}
 use Rattle.store_model.specs.Logs.{has_update}
 use Rattle.store_model.specs.Volumes.{is_known}
-use Rattle.store_claims.specs.Windows.{StoreWindow}
+use Rattle.txn_core.specs.store_claims.Windows.{StoreWindow}
 use Rattle.store_model.proofs.Known.{is_in}
 use Rattle.store_model.proofs.Told.{true≢false, same_self}
-use Rattle.txn_laws.specs.Windows.{HasWindow, RecoversWithin, lap_behind, next_lap_in}
-use Rattle.txn_laws.proofs.PageWrites.{page_is_own}
-use Rattle.txn_laws.proofs.Laps.{next_lap_shown}
-use Rattle.txn_laws.proofs.Syncs.{and_left, and_right}
-use Rattle.txn_laws.proofs.Telling.{at_return}
-use Rattle.txn_model.specs.Values.{StoreFacts, is_own, own_of}
+use Rattle.txn_core.specs.txn_laws.Windows.{HasWindow, RecoversWithin, lap_behind, next_lap_in}
+use Rattle.txn_core.proofs.txn_laws.PageWrites.{page_is_own}
+use Rattle.txn_core.proofs.txn_laws.Laps.{next_lap_shown}
+use Rattle.txn_core.proofs.txn_laws.Syncs.{and_left, and_right}
+use Rattle.txn_core.proofs.txn_laws.Telling.{at_return}
+use Rattle.txn_core.specs.txn_model.Values.{StoreFacts, is_own, own_of}
 use Rattle.txn_mount.specs.declared.fault.StoreFault.{StoreFault}
 use Rattle.txn_mount.specs.declared.fault.StoreFault.TheVariants.{Refused, Fault, Memory, Broken}
 use Rattle.txn_mount.specs.Contents.{UpdatesKnown}

@@ -15,44 +15,44 @@ use Rattle.sector_device.specs.Sectors.{sectors_of}
 use Rattle.sector_device.specs.WholeSectors.{length-sectors_of}
 use Rattle.log_model.specs.declared.entry.Entry.{Entry}
 use Rattle.log_model.specs.Logs.{is_shadowed, is_written_out, first_partial, recovered}
-use Rattle.log_page.specs.declared.places.LogPlace.{LogPlace}
-use Rattle.log_page.specs.declared.restart.Restart.{Restart}
-use Rattle.log_page.specs.Places.{first_page, lap_of}
-use Rattle.log_page.specs.RecordPages.{Reading}
-use Rattle.log_page.specs.LiveLogs.{live_log, said_lsn}
-use Rattle.log_page.specs.Restarts.{restart_spelling}
-use Rattle.log_page.proofs.Spelled.{length-restart_spelling}
-use Rattle.log_laws.specs.NextLaps.{IsSaid}
-use Rattle.log_reading.specs.declared.fault.LogRefusal.TheVariants.{NoRestart}
-use Rattle.log_reading.specs.Fronts.{chosen_in, is_readable, front_in}
-use Rattle.log_reading.specs.LogPages.{page_in}
-use Rattle.log_reading.specs.Rings.{IsRingPlace}
+use Rattle.txn_core.specs.log_page.declared.places.LogPlace.{LogPlace}
+use Rattle.txn_core.specs.log_page.declared.restart.Restart.{Restart}
+use Rattle.txn_core.specs.log_page.Places.{first_page, lap_of}
+use Rattle.txn_core.specs.log_page.RecordPages.{Reading}
+use Rattle.txn_core.specs.log_page.LiveLogs.{live_log, said_lsn}
+use Rattle.txn_core.specs.log_page.Restarts.{restart_spelling}
+use Rattle.txn_core.proofs.log_page.Spelled.{length-restart_spelling}
+use Rattle.txn_core.specs.log_laws.NextLaps.{IsSaid}
+use Rattle.log_recovery.specs.log_reading.declared.fault.LogRefusal.TheVariants.{NoRestart}
+use Rattle.log_recovery.specs.log_reading.Fronts.{chosen_in, is_readable, front_in}
+use Rattle.log_recovery.specs.log_reading.LogPages.{page_in}
+use Rattle.log_recovery.specs.log_reading.Rings.{IsRingPlace}
 use Rattle.log_recovery.specs.LogStates.{LogState, own_entries, entries_by, live_entries_in}
 use Rattle.log_recovery.specs.Writing.{is_put_out}
-use Rattle.log_area.specs.Areas.{LogAreaOf, page_first, new_area, restart_sector, page_to_send}
+use Rattle.txn_core.specs.log_area.Areas.{LogAreaOf, page_first, new_area, restart_sector, page_to_send}
 use Rattle.store_model.specs.Geometry.{SectorBytes, CanLeave}
 use Rattle.store_model.specs.Rings.{Restarts, entries_on}
 use Rattle.store_model.specs.Volumes.{is_known, AreWhole}
 use Rattle.store_model.proofs.Told.{true≢false}
-use Rattle.ring_laws.specs.Numbers.{LogSession, lsn_of_page, IsInRing}
-use Rattle.ring_laws.specs.PageBytes.{page_sector, raw_page, AreAlike}
-use Rattle.ring_laws.specs.StoreDisks.{disk_without}
-use Rattle.ring_laws.specs.RestartPages.{RestartFields, ChoosesRestart, said_restart, found_restarts}
-use Rattle.ring_laws.specs.RingPages.{first_ring}
-use Rattle.ring_laws.proofs.Numbering.{says_lap}
-use Rattle.ring_laws.proofs.RingFacts.{has_ring, log_small}
-use Rattle.ring_laws.proofs.LogSectors.{read_is_raw, kept_by_page}
-use Rattle.ring_laws.proofs.RestartCalls.{chooses}
-use Rattle.ring_laws.proofs.RingReads.{reads_front, laps_said}
-use Rattle.ring_laws.proofs.SeenDisks.{not_own, own_put}
-use Rattle.area_laws.specs.Standing.{Stands}
-use Rattle.area_laws.proofs.Reading.{is_first}
-use Rattle.txn_laws.specs.Laws.{first_lsn}
-use Rattle.txn_laws.specs.Mounting.{StandsAt}
-use Rattle.txn_laws.proofs.Mounting.{mounts_go_on_law}
-use Rattle.txn_laws.proofs.PageWrites.{page_is_own}
-use Rattle.txn_laws.proofs.Syncs.{and_left}
-use Rattle.txn_model.specs.Values.{is_own}
+use Rattle.txn_core.specs.ring_laws.Numbers.{LogSession, lsn_of_page, IsInRing}
+use Rattle.txn_core.specs.ring_laws.PageBytes.{page_sector, raw_page, AreAlike}
+use Rattle.txn_core.specs.ring_laws.StoreDisks.{disk_without}
+use Rattle.txn_core.specs.ring_laws.RestartPages.{RestartFields, ChoosesRestart, said_restart, found_restarts}
+use Rattle.txn_core.specs.ring_laws.RingPages.{first_ring}
+use Rattle.txn_core.proofs.ring_laws.Numbering.{says_lap}
+use Rattle.txn_core.proofs.ring_laws.RingFacts.{has_ring, log_small}
+use Rattle.txn_core.proofs.ring_laws.LogSectors.{read_is_raw, kept_by_page}
+use Rattle.txn_core.proofs.ring_laws.RestartCalls.{chooses}
+use Rattle.txn_core.proofs.ring_laws.RingReads.{reads_front, laps_said}
+use Rattle.txn_core.proofs.ring_laws.SeenDisks.{not_own, own_put}
+use Rattle.txn_core.specs.area_laws.Standing.{Stands}
+use Rattle.txn_core.proofs.area_laws.Reading.{is_first}
+use Rattle.txn_core.specs.txn_laws.Laws.{first_lsn}
+use Rattle.txn_core.specs.txn_laws.Mounting.{StandsAt}
+use Rattle.txn_core.proofs.txn_laws.Mounting.{mounts_go_on_law}
+use Rattle.txn_core.proofs.txn_laws.PageWrites.{page_is_own}
+use Rattle.txn_core.proofs.txn_laws.Syncs.{and_left}
+use Rattle.txn_core.specs.txn_model.Values.{is_own}
 use Rattle.txn_mount.specs.Contents.{mounted_content, ReadsLog, ReadsWell}
 use Rattle.txn_mount.specs.Images.{RecoversAlike, Spares, MountsOn, OneIsNewer, left_of}
 use Rattle.txn_mount.proofs.Frames.{entries_alike, live_alike}

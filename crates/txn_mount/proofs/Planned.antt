@@ -7,20 +7,20 @@ use Rattle.disk_model.specs.declared.block.Block.{Block}
 use Rattle.disk_model.specs.Content.{content_of}
 use Rattle.disk_model.specs.Sectors.{sector_of}
 use Rattle.sector_device.specs.Disks.{Disk, SeesDisk, seen}
-use Rattle.device_view.specs.Devices.{CountsOnDevice}
-use Rattle.log_page.specs.declared.places.LogPlace.{LogPlace}
-use Rattle.log_page.specs.Places.{sequence_bits}
-use Rattle.log_reading.specs.Rings.{IsRingPlace}
-use Rattle.log_reading.specs.declared.fault.LogRefusal.{LogRefusal}
-use Rattle.log_reading.specs.declared.fault.RecoveryFault.{RecoveryFault}
-use Rattle.log_reading.specs.declared.fault.RecoveryFault.TheVariants as reading
-use Rattle.log_reading.specs.Views.{recovery_cause}
+use Rattle.log_recovery.specs.device_view.Devices.{CountsOnDevice}
+use Rattle.txn_core.specs.log_page.declared.places.LogPlace.{LogPlace}
+use Rattle.txn_core.specs.log_page.Places.{sequence_bits}
+use Rattle.log_recovery.specs.log_reading.Rings.{IsRingPlace}
+use Rattle.log_recovery.specs.log_reading.declared.fault.LogRefusal.{LogRefusal}
+use Rattle.log_recovery.specs.log_reading.declared.fault.RecoveryFault.{RecoveryFault}
+use Rattle.log_recovery.specs.log_reading.declared.fault.RecoveryFault.TheVariants as reading
+use Rattle.log_recovery.specs.log_reading.Views.{recovery_cause}
 use Rattle.log_recovery.specs.declared.whole.Recovered.{Recovered}
 use Rattle.log_recovery.specs.declared.writing.ToWrite.{ToWrite}
 use Rattle.log_recovery.specs.LogStates.{LogState}
 use Rattle.log_recovery.specs.Writing.{state_with, to_write_in}
-use Rattle.txn_laws.specs.Laws.{first_lsn}
-use Rattle.txn_laws.proofs.Syncs.{and_left, and_right}
+use Rattle.txn_core.specs.txn_laws.Laws.{first_lsn}
+use Rattle.txn_core.proofs.txn_laws.Syncs.{and_left, and_right}
 use Rattle.store_model.proofs.Told.{true≢false}
 use Rattle.txn_mount.specs.declared.fault.StoreFault.{StoreFault}
 use Rattle.txn_mount.specs.declared.fault.StoreFault.TheVariants.{Refused, Fault, Memory, Broken}

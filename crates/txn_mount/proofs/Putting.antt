@@ -20,8 +20,8 @@ use Rattle.sector_device.specs.Moments.{Changes, LeftSince, MayLeaveNow, Remembe
 use Rattle.sector_device.proofs.Images.{one_call_more}
 use Rattle.log_model.specs.declared.entry.Entry.{Entry}
 use Rattle.log_model.specs.Logs.{is_ended, is_shadowed}
-use Rattle.log_page.specs.declared.places.LogPlace.{LogPlace}
-use Rattle.log_reading.specs.Rings.{IsRingPlace}
+use Rattle.txn_core.specs.log_page.declared.places.LogPlace.{LogPlace}
+use Rattle.log_recovery.specs.log_reading.Rings.{IsRingPlace}
 use Rattle.log_recovery.specs.LogStates.{LogState}
 use Rattle.log_recovery.specs.Writing.{is_put_out}
 use Rattle.log_recovery.specs.declared.found.RecoveredBlock.{RecoveredBlock}
@@ -30,17 +30,17 @@ use Rattle.store_model.specs.Volumes.{is_known, AreWhole}
 use Rattle.store_model.proofs.Told.{true≢false, same_self, rivals_both}
 use Rattle.store_model.proofs.Volumes.{volume_geometry, is_volume, claimed_is, size_known}
 use Rattle.store_model.proofs.Recovery.{one_claimed}
-use Rattle.ring_laws.specs.PageBytes.{AreAlike}
-use Rattle.area_laws.proofs.Calling.{torn_known}
-use Rattle.txn_laws.specs.Laws.{SyncsNow}
-use Rattle.txn_laws.specs.Mounting.{MayPutBack}
-use Rattle.txn_laws.proofs.Mounting.{mounts_go_on_law}
-use Rattle.txn_laws.proofs.WriteOuts.{spelled_length}
-use Rattle.txn_model.specs.Values.{is_own}
-use Rattle.device_blocks.specs.declared.word.CheckWord.{CheckWord}
-use Rattle.device_blocks.specs.declared.word.CheckWord.TheVariants.{Unread, Missing, Stands, Sent}
-use Rattle.device_blocks.specs.Words.{stood_check, next_word}
-use Rattle.device_blocks.specs.Calls.{IsNextOf, PutOrAsked}
+use Rattle.txn_core.specs.ring_laws.PageBytes.{AreAlike}
+use Rattle.txn_core.proofs.area_laws.Calling.{torn_known}
+use Rattle.txn_core.specs.txn_laws.Laws.{SyncsNow}
+use Rattle.txn_core.specs.txn_laws.Mounting.{MayPutBack}
+use Rattle.txn_core.proofs.txn_laws.Mounting.{mounts_go_on_law}
+use Rattle.txn_core.proofs.txn_laws.WriteOuts.{spelled_length}
+use Rattle.txn_core.specs.txn_model.Values.{is_own}
+use Rattle.txn_core.specs.device_blocks.declared.word.CheckWord.{CheckWord}
+use Rattle.txn_core.specs.device_blocks.declared.word.CheckWord.TheVariants.{Unread, Missing, Stands, Sent}
+use Rattle.txn_core.specs.device_blocks.Words.{stood_check, next_word}
+use Rattle.txn_core.specs.device_blocks.Calls.{IsNextOf, PutOrAsked}
 use Rattle.txn_mount.specs.Contents.{mounted_content, ReadsLog, ReadsWell}
 use Rattle.txn_mount.specs.Images.{RecoversAlike, Spares, MountsOn, LeavesAlike, IsItem, AreItems, left_of}
 use Rattle.txn_mount.specs.Calls.{PutsBack, PutsAll}

@@ -15,17 +15,17 @@ use Rattle.log_model.specs.declared.fault.EntryFault.{EntryFault}
 use Rattle.log_model.specs.Entries.{entry_at, entry_size, IsPlaced, IsAct}
 use Rattle.log_model.specs.Logs.{AreLevel, IsLevel, updates, block_of_kind, is_in_grid, first_misplaced, first_partial}
 use Rattle.log_model.proofs.EntryTables.{read_table}
-use Rattle.log_page.specs.declared.places.LogPlace.{LogPlace}
-use Rattle.log_page.specs.declared.restart.Restart.{Restart}
-use Rattle.log_page.specs.Places.{entries_at, page_lsn, page_after, lap_after, lap_of, page_of, is_in_ring, first_page}
-use Rattle.log_page.specs.RecordPages.{Reading, no_reading, bytes_from, lsn_of, entry_in, goes_on, entry_or_foreign, entries_from, page_reading, is_whole_page}
-use Rattle.log_page.specs.LiveLogs.{followed_by, log_from, live_log, start_in_page}
-use Rattle.log_page.specs.Restarts.{is_clean}
-use Rattle.log_reading.specs.declared.fault.LogRefusal.{LogRefusal}
-use Rattle.log_reading.specs.declared.fault.LogRefusal.TheVariants.{ForeignLog}
-use Rattle.log_reading.specs.declared.front.RestartFront.{RestartFront}
-use Rattle.log_reading.specs.LogPages.{page_in}
-use Rattle.log_reading.specs.Fronts.{front_in}
+use Rattle.txn_core.specs.log_page.declared.places.LogPlace.{LogPlace}
+use Rattle.txn_core.specs.log_page.declared.restart.Restart.{Restart}
+use Rattle.txn_core.specs.log_page.Places.{entries_at, page_lsn, page_after, lap_after, lap_of, page_of, is_in_ring, first_page}
+use Rattle.txn_core.specs.log_page.RecordPages.{Reading, no_reading, bytes_from, lsn_of, entry_in, goes_on, entry_or_foreign, entries_from, page_reading, is_whole_page}
+use Rattle.txn_core.specs.log_page.LiveLogs.{followed_by, log_from, live_log, start_in_page}
+use Rattle.txn_core.specs.log_page.Restarts.{is_clean}
+use Rattle.log_recovery.specs.log_reading.declared.fault.LogRefusal.{LogRefusal}
+use Rattle.log_recovery.specs.log_reading.declared.fault.LogRefusal.TheVariants.{ForeignLog}
+use Rattle.log_recovery.specs.log_reading.declared.front.RestartFront.{RestartFront}
+use Rattle.log_recovery.specs.log_reading.LogPages.{page_in}
+use Rattle.log_recovery.specs.log_reading.Fronts.{front_in}
 use Rattle.log_recovery.specs.LogStates.{FoundLog, LogState, all_or_refused, own_entries, entries_by, live_entries_in, whole_entries, lap_in, log_in, recovery_in}
 use Rattle.log_recovery.specs.Own.{is_own}
 use Rattle.log_recovery.specs.Writing.{is_barred, first_update, unless_foreign, to_write_in}

@@ -8,13 +8,13 @@ use Rattle.disk_model.specs.Content.{Content, content_of}
 use Rattle.sector_device.specs.Disks.{Disk, IsSettled, IsSized, newest, seen}
 use Rattle.log_model.specs.declared.entry.Entry.{Entry}
 use Rattle.log_model.specs.Logs.{IsLevel, is_shadowed, is_other, is_written_out, recovered}
-use Rattle.log_page.specs.declared.places.LogPlace.{LogPlace}
+use Rattle.txn_core.specs.log_page.declared.places.LogPlace.{LogPlace}
 use Rattle.log_recovery.specs.Writing.{is_spelled, is_put_out}
 use Rattle.store_model.specs.Volumes.{is_known}
-use Rattle.txn_laws.specs.Mounting.{StandsAt, IsMounting}
-use Rattle.txn_laws.proofs.Mounting.{mounts_go_on_law}
-use Rattle.txn_laws.proofs.Syncs.{and_left, and_right}
-use Rattle.txn_model.specs.Values.{is_own}
+use Rattle.txn_core.specs.txn_laws.Mounting.{StandsAt, IsMounting}
+use Rattle.txn_core.proofs.txn_laws.Mounting.{mounts_go_on_law}
+use Rattle.txn_core.proofs.txn_laws.Syncs.{and_left, and_right}
+use Rattle.txn_core.specs.txn_model.Values.{is_own}
 use Rattle.store_model.proofs.Told.{true≢false}
 use Rattle.txn_mount.specs.Contents.{mounted_content, stays_torn}
 use Rattle.txn_mount.specs.Images.{MountsOn}

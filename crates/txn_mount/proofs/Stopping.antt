@@ -5,15 +5,15 @@ use Rattle.disk_model.specs.declared.block.Block.{Block}
 use Rattle.disk_model.specs.Content.{Content, content_of}
 use Rattle.log_model.specs.declared.entry.Entry.{Entry}
 use Rattle.log_model.specs.Logs.{is_shadowed}
-use Rattle.log_page.specs.declared.places.LogPlace.{LogPlace}
-use Rattle.log_reading.specs.declared.fault.LogRefusal.{LogRefusal}
-use Rattle.log_reading.specs.declared.front.RestartFront.{RestartFront}
+use Rattle.txn_core.specs.log_page.declared.places.LogPlace.{LogPlace}
+use Rattle.log_recovery.specs.log_reading.declared.fault.LogRefusal.{LogRefusal}
+use Rattle.log_recovery.specs.log_reading.declared.front.RestartFront.{RestartFront}
 use Rattle.log_recovery.specs.LogStates.{LogState, live_entries_in}
 use Rattle.log_recovery.specs.Writing.{to_write_in}
 use Rattle.store_model.specs.Geometry.{SectorBytes}
 use Rattle.store_model.specs.Volumes.{is_known}
-use Rattle.txn_laws.proofs.Syncs.{and_left, and_right}
-use Rattle.txn_model.specs.Values.{is_own}
+use Rattle.txn_core.proofs.txn_laws.Syncs.{and_left, and_right}
+use Rattle.txn_core.specs.txn_model.Values.{is_own}
 use Rattle.txn_mount.specs.Contents.{mounted_content}
 use Rattle.txn_mount.specs.Images.{RecoversAlike, IsMountedAs}
 use Rattle.txn_mount.specs.Laws.{Recovers, StoppedMounts}

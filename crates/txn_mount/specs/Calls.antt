@@ -3,16 +3,16 @@ use Rattle.std.specs.Prelude.{◌≡◌, ◌⊎◌, ℕ, List, [], ◌∷◌, Op
 use Rattle.host_base.specs.declared.outside.Failed.{Failed}
 use Rattle.sector_device.specs.Moments.{moment_after, Changes}
 use Rattle.fixup_record.specs.Protecting.{protected_bytes}
-use Rattle.log_page.specs.Restarts.{restart_spelling}
-use Rattle.log_area.specs.Areas.{LogAreaOf, restart_sector, page_to_send}
-use Rattle.log_area.specs.Calls.{SentOrAsked}
+use Rattle.txn_core.specs.log_page.Restarts.{restart_spelling}
+use Rattle.txn_core.specs.log_area.Areas.{LogAreaOf, restart_sector, page_to_send}
+use Rattle.txn_core.specs.log_area.Calls.{SentOrAsked}
 use Rattle.log_recovery.specs.declared.found.RecoveredBlock.{RecoveredBlock}
-use Rattle.area_laws.specs.Laws.{SendsRestart}
-use Rattle.txn_laws.specs.Laws.{SyncsNow}
-use Rattle.device_blocks.specs.declared.word.CheckWord.{CheckWord}
-use Rattle.device_blocks.specs.declared.word.CheckWord.TheVariants.{Unread}
-use Rattle.device_blocks.specs.Words.{IsFitWord}
-use Rattle.device_blocks.specs.Calls.{IsPutOrNot}
+use Rattle.txn_core.specs.area_laws.Laws.{SendsRestart}
+use Rattle.txn_core.specs.txn_laws.Laws.{SyncsNow}
+use Rattle.txn_core.specs.device_blocks.declared.word.CheckWord.{CheckWord}
+use Rattle.txn_core.specs.device_blocks.declared.word.CheckWord.TheVariants.{Unread}
+use Rattle.txn_core.specs.device_blocks.Words.{IsFitWord}
+use Rattle.txn_core.specs.device_blocks.Calls.{IsPutOrNot}
 
 -- a block is read, and its body written under the check word behind the one that stands there
 pub record PutsBack {D : Type 0} (gives : D → Option (List (List ℕ))) (changes : D → Changes) (moment : D → ℕ) (r : RecoveredBlock) (result : Result (Unit {0}) Failed) (old new : D) : Type 0 where

@@ -4,10 +4,10 @@ use Rattle.disk_model.specs.declared.block.Block.{Block}
 use Rattle.disk_model.specs.Content.{Content}
 use Rattle.log_model.specs.declared.entry.Entry.{Entry}
 use Rattle.log_model.specs.Logs.{IsLevel, is_in_grid, is_written_out, recovered, first_partial}
-use Rattle.log_page.specs.declared.places.LogPlace.{LogPlace}
-use Rattle.log_reading.specs.declared.front.RestartFront.{RestartFront}
-use Rattle.log_reading.specs.Fronts.{front_in}
-use Rattle.log_reading.specs.LogPages.{page_in}
+use Rattle.txn_core.specs.log_page.declared.places.LogPlace.{LogPlace}
+use Rattle.log_recovery.specs.log_reading.declared.front.RestartFront.{RestartFront}
+use Rattle.log_recovery.specs.log_reading.Fronts.{front_in}
+use Rattle.log_recovery.specs.log_reading.LogPages.{page_in}
 use Rattle.log_recovery.specs.LogStates.{LogState, live_entries_in, lap_in}
 use Rattle.log_recovery.specs.Own.{is_own}
 use Rattle.log_recovery.specs.Writing.{is_put_out, is_barred, first_update, to_write_in}

@@ -1,9 +1,9 @@
 -- Why a store isn't mounted.
 use Rattle.std.specs.Prelude.{Result, Ok, Err}
 use Rattle.host_base.specs.Answers.{Cause, refused, no_memory, failed, never}
-use Rattle.log_reading.specs.declared.fault.LogRefusal.{LogRefusal}
-use Rattle.log_reading.specs.declared.fault.RecoveryFault.{RecoveryFault}
-use Rattle.log_reading.specs.declared.fault.RecoveryFault.TheVariants as found
+use Rattle.log_recovery.specs.log_reading.declared.fault.LogRefusal.{LogRefusal}
+use Rattle.log_recovery.specs.log_reading.declared.fault.RecoveryFault.{RecoveryFault}
+use Rattle.log_recovery.specs.log_reading.declared.fault.RecoveryFault.TheVariants as found
 use Rattle.txn_mount.specs.declared.fault.StoreFault.{StoreFault}
 use Rattle.txn_mount.specs.declared.fault.StoreFault.TheVariants.{Refused, Fault, Memory, Broken}
 

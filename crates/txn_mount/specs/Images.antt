@@ -7,25 +7,25 @@ use Rattle.disk_model.specs.Sectors.{sectors, sector_of, same_block}
 use Rattle.fixup_record.specs.Spellings.{has_spelling}
 use Rattle.sector_device.specs.Disks.{Disk, seen, is_within}
 use Rattle.sector_device.specs.Moments.{Changes, LeftSince}
-use Rattle.log_laws.specs.NextLaps.{IsSaid}
+use Rattle.txn_core.specs.log_laws.NextLaps.{IsSaid}
 use Rattle.log_model.specs.declared.entry.Entry.{Entry}
 use Rattle.log_model.specs.Logs.{is_shadowed, first_partial, recovered}
 use Rattle.log_recovery.specs.declared.found.RecoveredBlock.{RecoveredBlock}
-use Rattle.log_page.specs.declared.places.LogPlace.{LogPlace}
-use Rattle.log_page.specs.declared.restart.Restart.{Restart}
-use Rattle.log_page.specs.Places.{lap_of}
-use Rattle.log_page.specs.Restarts.{is_newer}
-use Rattle.log_reading.specs.declared.front.RestartFront.{RestartFront}
-use Rattle.log_reading.specs.Fronts.{front_in}
-use Rattle.log_reading.specs.LogPages.{page_in}
+use Rattle.txn_core.specs.log_page.declared.places.LogPlace.{LogPlace}
+use Rattle.txn_core.specs.log_page.declared.restart.Restart.{Restart}
+use Rattle.txn_core.specs.log_page.Places.{lap_of}
+use Rattle.txn_core.specs.log_page.Restarts.{is_newer}
+use Rattle.log_recovery.specs.log_reading.declared.front.RestartFront.{RestartFront}
+use Rattle.log_recovery.specs.log_reading.Fronts.{front_in}
+use Rattle.log_recovery.specs.log_reading.LogPages.{page_in}
 use Rattle.log_recovery.specs.LogStates.{live_entries_in}
 use Rattle.log_recovery.specs.Writing.{is_put_out}
-use Rattle.ring_laws.specs.PageBytes.{raw_page, AreAlike}
+use Rattle.txn_core.specs.ring_laws.PageBytes.{raw_page, AreAlike}
 use Rattle.store_model.specs.Logs.{has_update}
 use Rattle.store_model.specs.Geometry.{SectorBytes}
 use Rattle.store_model.specs.Volumes.{is_known}
-use Rattle.txn_laws.specs.Mounting.{IsMounting}
-use Rattle.txn_model.specs.Values.{is_own}
+use Rattle.txn_core.specs.txn_laws.Mounting.{IsMounting}
+use Rattle.txn_core.specs.txn_model.Values.{is_own}
 use Rattle.txn_mount.specs.Contents.{mounted_content, UpdatesKnown}
 
 -- a mount of these sectors by the list makes of the block what it is in this content: its bytes are equal, and it is torn at most where it is torn there

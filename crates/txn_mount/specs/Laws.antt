@@ -6,31 +6,31 @@ use Rattle.disk_model.specs.Content.{Content, content_of}
 use Rattle.disk_model.specs.Sectors.{sector_of}
 use Rattle.sector_device.specs.Disks.{Disk, IsSettled, SeesDisk, seen}
 use Rattle.sector_device.specs.Moments.{Changes}
-use Rattle.log_area.specs.Areas.{new_area}
-use Rattle.log_page.specs.declared.places.LogPlace.{LogPlace}
-use Rattle.log_reading.specs.Rings.{IsRingPlace}
+use Rattle.txn_core.specs.log_area.Areas.{new_area}
+use Rattle.txn_core.specs.log_page.declared.places.LogPlace.{LogPlace}
+use Rattle.log_recovery.specs.log_reading.Rings.{IsRingPlace}
 use Rattle.log_model.specs.declared.entry.Entry.{Entry}
 use Rattle.log_model.specs.Logs.{is_shadowed}
-use Rattle.log_reading.specs.declared.front.RestartFront.{RestartFront}
-use Rattle.log_reading.specs.Fronts.{front_in}
-use Rattle.log_reading.specs.LogPages.{page_in}
+use Rattle.log_recovery.specs.log_reading.declared.front.RestartFront.{RestartFront}
+use Rattle.log_recovery.specs.log_reading.Fronts.{front_in}
+use Rattle.log_recovery.specs.log_reading.LogPages.{page_in}
 use Rattle.log_recovery.specs.LogStates.{LogState, live_entries_in}
 use Rattle.log_recovery.specs.Recovering.{AreRecovered, IsSized}
 use Rattle.log_recovery.specs.declared.found.RecoveredBlocks.{RecoveredBlocks}
 use Rattle.store_model.specs.Geometry.{SectorBytes}
 use Rattle.store_model.specs.Volumes.{is_known}
-use Rattle.txn_model.specs.Values.{is_own}
+use Rattle.txn_core.specs.txn_model.Values.{is_own}
 use Rattle.txn_mount.specs.declared.puts.PutOut.{PutOut}
 use Rattle.txn_mount.specs.Puts.{items_of, AreKeys}
 use Rattle.log_recovery.specs.Writing.{is_put_out, to_write_in, IsToWrite, RecoversToWrite}
 use Rattle.log_recovery.specs.declared.writing.ToWrite.{ToWrite}
 use Rattle.txn_core.specs.Openings.{StartsThen}
 use Rattle.log_recovery.specs.declared.found.RecoveredBlock.{RecoveredBlock}
-use Rattle.ring_laws.specs.PageBytes.{raw_page}
-use Rattle.ring_laws.specs.RestartPages.{said_restart}
-use Rattle.txn_laws.specs.Laws.{first_lsn, opened_area, StartsOn}
-use Rattle.txn_laws.specs.Mounting.{HasMounted}
-use Rattle.txn_model.specs.Calls.{first_facts}
+use Rattle.txn_core.specs.ring_laws.PageBytes.{raw_page}
+use Rattle.txn_core.specs.ring_laws.RestartPages.{said_restart}
+use Rattle.txn_core.specs.txn_laws.Laws.{first_lsn, opened_area, StartsOn}
+use Rattle.txn_core.specs.txn_laws.Mounting.{HasMounted}
+use Rattle.txn_core.specs.txn_model.Calls.{first_facts}
 use Rattle.txn_mount.specs.Contents.{mounted_content}
 use Rattle.txn_mount.specs.Images.{AreItems, left_of, LeavesAlike, OneIsNewer, RecoversAlike, IsMountedAs}
 use Rattle.txn_mount.specs.Calls.{MountsBy}

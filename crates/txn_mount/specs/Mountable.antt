@@ -6,15 +6,15 @@ use Rattle.disk_model.specs.Content.{Content, content_of}
 use Rattle.disk_model.specs.Sectors.{sector_of}
 use Rattle.sector_device.specs.Moments.{Changes, MayLeaveNow, LeftSince}
 use Rattle.log_model.specs.declared.entry.Entry.{Entry}
-use Rattle.log_page.specs.declared.places.LogPlace.{LogPlace}
-use Rattle.log_page.specs.Places.{sequence_bits}
-use Rattle.log_reading.specs.Rings.{IsRingPlace}
+use Rattle.txn_core.specs.log_page.declared.places.LogPlace.{LogPlace}
+use Rattle.txn_core.specs.log_page.Places.{sequence_bits}
+use Rattle.log_recovery.specs.log_reading.Rings.{IsRingPlace}
 use Rattle.log_recovery.specs.LogStates.{LogState}
 use Rattle.log_recovery.specs.Writing.{to_write_in}
 use Rattle.store_model.specs.Geometry.{SectorBytes}
-use Rattle.store_claims.specs.Windows.{StoreWindow}
-use Rattle.txn_laws.specs.Windows.{HasWindow, RecoversWithin, lap_behind, next_lap_in, During, LapsDuring}
-use Rattle.txn_model.specs.Values.{StoreFacts, is_own}
+use Rattle.txn_core.specs.store_claims.Windows.{StoreWindow}
+use Rattle.txn_core.specs.txn_laws.Windows.{HasWindow, RecoversWithin, lap_behind, next_lap_in, During, LapsDuring}
+use Rattle.txn_core.specs.txn_model.Values.{StoreFacts, is_own}
 use Rattle.txn_mount.specs.declared.fault.StoreFault.{StoreFault}
 use Rattle.txn_mount.specs.declared.fault.StoreFault.TheVariants.{Fault, Memory}
 use Rattle.txn_mount.specs.Contents.{UpdatesKnown}

@@ -7,20 +7,20 @@ use Rattle.disk_model.specs.Content.{content_of}
 use Rattle.disk_model.specs.Sectors.{same_block}
 use Rattle.sector_device.specs.Disks.{Disk, IsSettled, seen}
 use Rattle.sector_device.specs.Moments.{Changes}
-use Rattle.device_view.specs.Devices.{KeepsDevice}
+use Rattle.log_recovery.specs.device_view.Devices.{KeepsDevice}
 use Rattle.log_model.specs.declared.entry.Entry.{Entry}
-use Rattle.log_page.specs.declared.places.LogPlace.{LogPlace}
+use Rattle.txn_core.specs.log_page.declared.places.LogPlace.{LogPlace}
 use Rattle.log_recovery.specs.declared.found.Shadow.{Shadow}
 use Rattle.log_recovery.specs.declared.writing.ToWrite.{ToWrite}
 use Rattle.log_recovery.specs.LogStates.{LogState}
 use Rattle.log_recovery.specs.Recovering.{held_lsn, shadow_block, shadow_lsn}
 use Rattle.log_recovery.specs.Writing.{state_with, to_write_in}
-use Rattle.ring_laws.specs.PageBytes.{raw_page}
-use Rattle.ring_laws.specs.RestartPages.{said_restart}
-use Rattle.txn_laws.specs.Mounting.{HasMounted}
-use Rattle.txn_laws.specs.Windows.{HasStart}
-use Rattle.txn_model.specs.Calls.{first_facts}
-use Rattle.txn_model.specs.Values.{StoreFacts}
+use Rattle.txn_core.specs.ring_laws.PageBytes.{raw_page}
+use Rattle.txn_core.specs.ring_laws.RestartPages.{said_restart}
+use Rattle.txn_core.specs.txn_laws.Mounting.{HasMounted}
+use Rattle.txn_core.specs.txn_laws.Windows.{HasStart}
+use Rattle.txn_core.specs.txn_model.Calls.{first_facts}
+use Rattle.txn_core.specs.txn_model.Values.{StoreFacts}
 use Rattle.txn_mount.specs.declared.fault.StoreFault.{StoreFault}
 use Rattle.txn_mount.specs.declared.fault.StoreFault.TheVariants.{Fault}
 use Rattle.txn_mount.specs.declared.puts.PutOut.{PutOut}

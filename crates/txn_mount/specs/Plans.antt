@@ -6,15 +6,15 @@ use Rattle.disk_model.specs.Content.{content_of}
 use Rattle.sector_device.specs.Disks.{Disk, seen}
 use Rattle.sector_device.specs.Moments.{Changes}
 use Rattle.log_model.specs.declared.entry.Entry.{Entry}
-use Rattle.log_page.specs.declared.places.LogPlace.{LogPlace}
-use Rattle.log_page.specs.Places.{sequence_bits}
-use Rattle.log_area.specs.Areas.{LogAreaOf, new_area, ring_size}
+use Rattle.txn_core.specs.log_page.declared.places.LogPlace.{LogPlace}
+use Rattle.txn_core.specs.log_page.Places.{sequence_bits}
+use Rattle.txn_core.specs.log_area.Areas.{LogAreaOf, new_area, ring_size}
 use Rattle.log_recovery.specs.declared.found.RecoveredBlock.{RecoveredBlock}
 use Rattle.log_recovery.specs.declared.whole.Recovered.{Recovered}
 use Rattle.log_recovery.specs.declared.writing.ToWrite.{ToWrite}
 use Rattle.log_recovery.specs.Recovering.{AreRecovered, IsSized}
 use Rattle.log_recovery.specs.Writing.{state_with}
-use Rattle.txn_laws.specs.Laws.{first_lsn, opened_area}
+use Rattle.txn_core.specs.txn_laws.Laws.{first_lsn, opened_area}
 use Rattle.txn_mount.specs.declared.fault.StoreFault.{StoreFault}
 use Rattle.txn_mount.specs.declared.fault.StoreFault.TheVariants.{Broken}
 use Rattle.txn_mount.specs.declared.puts.PutOut.{PutOut}

@@ -1,5 +1,5 @@
 //! Why a store isn't mounted.
-use log_reading::{LogRefusal, RecoveryFault};
+use log_recovery::{LogRefusal, RecoveryFault};
 use std::alloc::AllocError;
 use thiserror::Error;
 

@@ -32,3 +32,4 @@ pub use mounting::{Mounted, mount};
 pub use puts::{PutOut, write_outs};
 pub use read::read_log;
 pub use session::write_down;
+pub use txn_core::Store;

@@ -4,15 +4,14 @@ ghost use Rattle.host_base.specs.Causes.{HasFailed, last_moment};
 ghost use Rattle.disk_model.specs.Content.{content_of};
 ghost use Rattle.disk_model.specs.Sectors.{sector_of};
 ghost use Rattle.block_view.specs.Views.{AsksView};
-ghost use Rattle.device_view.specs.Devices.{KeepsDevice, CountsOnDevice};
+ghost use Rattle.log_recovery.specs.device_view.Devices.{KeepsDevice, CountsOnDevice};
 ghost use Rattle.log_recovery.specs.Places.{HasPlaces};
 ghost use Rattle.log_recovery.specs.Recovering.{content_with, IsSized};
 ghost use Rattle.txn_core.specs.Changes.{view_cause};
 
 use block_view::{View, ViewFault};
-use device_view::DeviceView;
 use disk_model::{Block, Body};
-use log_recovery::{Places, RecoveredBlock, RecoveredView};
+use log_recovery::{DeviceView, Places, RecoveredBlock, RecoveredView};
 use sector_device::Device;
 
 // The body of a block as recovery makes it.

@@ -4,13 +4,13 @@ ghost use Rattle.disk_model.specs.Content.{content_of};
 ghost use Rattle.disk_model.specs.Sectors.{sector_of};
 ghost use Rattle.host_base.specs.Answers.{ExplainsOrFails};
 ghost use Rattle.host_base.specs.Causes.{HasFailed, last_moment};
-ghost use Rattle.device_view.specs.Devices.{CountsOnDevice};
-ghost use Rattle.log_reading.specs.LogPages.{IsLogPlace};
-ghost use Rattle.log_reading.specs.Rings.{IsRingPlace};
+ghost use Rattle.log_recovery.specs.device_view.Devices.{CountsOnDevice};
+ghost use Rattle.log_recovery.specs.log_reading.LogPages.{IsLogPlace};
+ghost use Rattle.log_recovery.specs.log_reading.Rings.{IsRingPlace};
 ghost use Rattle.log_recovery.specs.Writing.{to_write_in};
-ghost use Rattle.log_area.specs.Areas.{ring_size};
-ghost use Rattle.txn_state.specs.States.{facts_of};
-ghost use Rattle.txn_model.specs.Calls.{first_facts};
+ghost use Rattle.txn_core.specs.log_area.Areas.{ring_size};
+ghost use Rattle.txn_core.specs.txn_state.States.{facts_of};
+ghost use Rattle.txn_core.specs.txn_model.Calls.{first_facts};
 ghost use Rattle.txn_core.specs.Kept.{IsBegun};
 ghost use Rattle.txn_core.specs.Openings.{StartsThen};
 ghost use Rattle.txn_mount.specs.Faults.{store_cause, cause_of, device_behind};
@@ -23,13 +23,10 @@ use crate::room::MountPlan;
 use crate::session::write_down;
 use disk_model::Block;
 use host_base::Failed;
-use log_area::LogArea;
-use log_page::LogPlace;
-use log_recovery::Shadow;
+use log_recovery::{LogPlace, Shadow};
 use sector_device::Device;
 use std::alloc::Global;
-use txn_core::Store;
-use txn_state::StoreState;
+use txn_core::{LogArea, Store, StoreState};
 
 /// A store as a mount leaves it.
 #[derive(Drop)]

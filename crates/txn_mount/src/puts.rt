@@ -4,10 +4,10 @@ ghost use Rattle.host_base.specs.Causes.{FailsByCause};
 ghost use Rattle.txn_mount.specs.Calls.{PutsBack, PutsAll};
 ghost use Rattle.txn_mount.specs.Puts.{items_of, MayPut, MayPutAt};
 
-use device_blocks::{CheckWord, write_body};
 use host_base::Failed;
 use log_recovery::RecoveredBlock;
 use sector_device::Device;
+use txn_core::{CheckWord, write_body};
 
 /// A block that a mount puts out.
 #[derive(Debug, Drop)]

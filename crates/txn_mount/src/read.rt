@@ -3,16 +3,14 @@ ghost use Rattle.std.specs.Prelude.{◌≡◌, ◌<◌, All, IfOk, IfSome, IsErr
 ghost use Rattle.host_base.specs.Causes.{HasFailed, last_moment};
 ghost use Rattle.disk_model.specs.Sectors.{sector_of};
 ghost use Rattle.disk_model.specs.Content.{content_of};
-ghost use Rattle.device_view.specs.Devices.{KeepsDevice, CountsOnDevice};
-ghost use Rattle.log_reading.specs.LogPages.{IsLogPlace};
-ghost use Rattle.log_reading.specs.Views.{recovery_cause};
+ghost use Rattle.log_recovery.specs.device_view.Devices.{KeepsDevice, CountsOnDevice};
+ghost use Rattle.log_recovery.specs.log_reading.LogPages.{IsLogPlace};
+ghost use Rattle.log_recovery.specs.log_reading.Views.{recovery_cause};
 ghost use Rattle.log_recovery.specs.Recovering.{IsSized};
 ghost use Rattle.log_recovery.specs.Writing.{to_write_in, RecoversToWrite};
 
-use device_view::{DeviceView, piece_room};
 use disk_model::Block;
-use log_page::LogPlace;
-use log_recovery::{RecoveryFault, ToWrite, recover_to_write};
+use log_recovery::{DeviceView, LogPlace, RecoveryFault, ToWrite, piece_room, recover_to_write};
 use sector_device::Device;
 use std::alloc::Global;
 

@@ -1,18 +1,17 @@
 //! All memory that a mount takes, before anything is written.
 ghost use Rattle.std.specs.Prelude.{◌≡◌, ◌⊎◌, ◌^◌, ◌<◌, true, All, IfOk, IfErr};
-ghost use Rattle.log_reading.specs.Rings.{IsRingPlace};
+ghost use Rattle.log_recovery.specs.log_reading.Rings.{IsRingPlace};
 ghost use Rattle.log_recovery.specs.Recovering.{IsSized};
-ghost use Rattle.log_area.specs.Areas.{new_area};
+ghost use Rattle.txn_core.specs.log_area.Areas.{new_area};
 ghost use Rattle.txn_mount.specs.Plans.{is_level, IsPlan, IsUnlevel};
 
 use crate::fault::StoreFault;
 use crate::keys::keys_of;
 use crate::puts::PutOut;
 use host_base::Memory;
-use log_area::LogArea;
-use log_page::LogPlace;
-use log_recovery::{Recovered, ToWrite, is_lap};
+use log_recovery::{LogPlace, Recovered, ToWrite, is_lap};
 use std::alloc::{AllocError, Global};
+use txn_core::LogArea;
 
 /// What a mount needs before it writes: what was found of the log, the blocks that are put out, the
 /// ring of the new session and its first LSN, and a 0 for each page of the ring.

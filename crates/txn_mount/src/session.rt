@@ -1,16 +1,16 @@
 //! What a mount writes.
 ghost use Rattle.std.specs.Prelude.{◌≡◌, ◌<◌, ◌≤◌, ◌^◌, None, OnOk, All};
 ghost use Rattle.host_base.specs.Causes.{FailsByCause};
-ghost use Rattle.log_page.specs.Places.{sequence_bits};
-ghost use Rattle.log_area.specs.Areas.{IsOldest, lap_at, next_number, named_area, synced_area};
+ghost use Rattle.txn_core.specs.log_page.Places.{sequence_bits};
+ghost use Rattle.txn_core.specs.log_area.Areas.{IsOldest, lap_at, next_number, named_area, synced_area};
 ghost use Rattle.txn_mount.specs.Calls.{NamesNow, MountsBy};
 ghost use Rattle.txn_mount.specs.Puts.{items_of, MayPutAt};
 
 use crate::puts::{PutOut, write_outs};
 use host_base::Failed;
-use log_area::LogArea;
 use log_recovery::RecoveredBlock;
 use sector_device::Device;
+use txn_core::LogArea;
 
 // Writes the restart page that names the oldest place, and syncs.
 fn name_and_sync<D: Device>(log: &mut LogArea, device: &mut D, oldest: u64) -> Result<(), Failed>

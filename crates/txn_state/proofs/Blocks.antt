@@ -3,14 +3,14 @@ use Rattle.std.proofs.Common.{◌≡◌, ◌⊎◌, ℕ, Bool, true, false, not,
 use Rattle.std.specs.Prelude.{◌&&◌, ◌||◌, nat_le, is_some, IfSome}
 use Rattle.std.specs.Option.{option_or}
 use Rattle.std.proofs.lemmas.Bool.{cases_Bool}
-use Rattle.disk_model.specs.declared.block.Block.{Block}
-use Rattle.disk_model.specs.declared.block.Body.{Body}
-use Rattle.disk_model.specs.Sectors.{same_block, are_rivals}
-use Rattle.disk_model.proofs.Frames.{same_block-is}
-use Rattle.log_model.specs.Logs.{is_in_grid}
-use Rattle.txn_model.specs.declared.mark.Mark.{Mark}
-use Rattle.txn_model.specs.Values.{no_mark, take_at}
-use Rattle.txn_model.specs.Calls.{committed_marks, given_up_marks, noted_mark, is_buried, synced_mark, is_noted, written_out_marks, sent_out_marks}
+use Rattle.txn_log.specs.disk_model.declared.block.Block.{Block}
+use Rattle.txn_log.specs.disk_model.declared.block.Body.{Body}
+use Rattle.txn_log.specs.disk_model.Sectors.{same_block, are_rivals}
+use Rattle.txn_log.proofs.disk_model.Frames.{same_block-is}
+use Rattle.txn_log.specs.log_model.Logs.{is_in_grid}
+use Rattle.txn_log.specs.txn_model.declared.mark.Mark.{Mark}
+use Rattle.txn_log.specs.txn_model.Values.{no_mark, take_at}
+use Rattle.txn_log.specs.txn_model.Calls.{committed_marks, given_up_marks, noted_mark, is_buried, synced_mark, is_noted, written_out_marks, sent_out_marks}
 use Rattle.txn_state.specs.States.{HasSize, KeepsBlocks}
 use Rattle.txn_state.proofs.Bools.{true≢false, clash, and_left, and_true, and_false, unless, same_no_rival}
 

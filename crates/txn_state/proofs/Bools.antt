@@ -1,11 +1,11 @@
 -- Truth values, blocks that are the same, and rivals.
 use Rattle.std.proofs.Common.{◌≡◌, ◌+◌, Bool, true, false, not, refl, sym, ap, ap₂, ◌∙◌}
 use Rattle.std.specs.Prelude.{◌&&◌, ◌||◌, nat_lt}
-use Rattle.disk_model.specs.declared.block.Block.{Block}
-use Rattle.disk_model.specs.declared.block.BlockKind.{BlockKind}
-use Rattle.disk_model.specs.declared.block.BlockKind.TheVariants.{Plain, FileRec, Index}
-use Rattle.disk_model.specs.Sectors.{sectors, same_kind, same_block, overlap, are_rivals}
-use Rattle.disk_model.proofs.Frames.{same_block-is}
+use Rattle.txn_log.specs.disk_model.declared.block.Block.{Block}
+use Rattle.txn_log.specs.disk_model.declared.block.BlockKind.{BlockKind}
+use Rattle.txn_log.specs.disk_model.declared.block.BlockKind.TheVariants.{Plain, FileRec, Index}
+use Rattle.txn_log.specs.disk_model.Sectors.{sectors, same_kind, same_block, overlap, are_rivals}
+use Rattle.txn_log.proofs.disk_model.Frames.{same_block-is}
 
 pub true≢false : {X : Type 0} → true ≡ false → X
 true≢false e = absurd cc

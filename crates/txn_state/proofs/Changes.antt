@@ -2,14 +2,14 @@
 use Rattle.std.proofs.Common.{◌≡◌, ◌⊎◌, ℕ, ◌+◌, ◌≤◌, Bool, true, false, cond, Option, Some, None, refl, sym, ap, ap₂, subst, ◌∙◌, inl, inr}
 use Rattle.std.specs.Prelude.{◌||◌, is_some, IfSome, unwrap_or}
 use Rattle.std.proofs.lemmas.Bool.{cases_Bool}
-use Rattle.disk_model.specs.declared.block.Block.{Block}
-use Rattle.disk_model.specs.declared.block.Body.{Body}
-use Rattle.disk_model.specs.Sectors.{sectors, same_block, are_rivals}
-use Rattle.disk_model.proofs.Frames.{same_block-is}
-use Rattle.log_model.specs.Logs.{is_in_grid}
-use Rattle.txn_model.specs.declared.mark.Mark.{Mark}
-use Rattle.txn_model.specs.Values.{put_at}
-use Rattle.txn_model.specs.Calls.{changed_mark, rival_mark, changed_marks}
+use Rattle.txn_log.specs.disk_model.declared.block.Block.{Block}
+use Rattle.txn_log.specs.disk_model.declared.block.Body.{Body}
+use Rattle.txn_log.specs.disk_model.Sectors.{sectors, same_block, are_rivals}
+use Rattle.txn_log.proofs.disk_model.Frames.{same_block-is}
+use Rattle.txn_log.specs.log_model.Logs.{is_in_grid}
+use Rattle.txn_log.specs.txn_model.declared.mark.Mark.{Mark}
+use Rattle.txn_log.specs.txn_model.Values.{put_at}
+use Rattle.txn_log.specs.txn_model.Calls.{changed_mark, rival_mark, changed_marks}
 use Rattle.txn_state.specs.States.{HasSize, KeepsBlocks}
 use Rattle.txn_state.proofs.Bools.{clash, or_comm, rivals_turn, same_no_rival}
 

@@ -2,16 +2,16 @@
 use Rattle.std.proofs.Common.{◌≡◌, ℕ, ◌+◌, suc, Bool, true, false, cond, List, [], Option, None, refl, sym, ap, ◌∙◌, arith}
 use Rattle.std.specs.Prelude.{◌||◌}
 use Rattle.std.proofs.Math.Path.{fun_ext}
-use Rattle.disk_model.specs.declared.block.Block.{Block}
-use Rattle.disk_model.specs.declared.block.Body.{Body}
-use Rattle.disk_model.specs.Sectors.{same_block, are_rivals}
-use Rattle.disk_model.proofs.Frames.{same_block-is}
-use Rattle.log_page.specs.declared.places.LogPlace.{LogPlace}
-use Rattle.log_area.specs.Areas.{LogAreaOf}
-use Rattle.store_pools.specs.declared.kept.KeptBody.{KeptBody}
-use Rattle.store_pools.specs.Pools.{bodies_of}
-use Rattle.txn_model.specs.declared.mark.Mark.{Mark}
-use Rattle.txn_model.specs.Values.{StoreFacts, take_at}
+use Rattle.txn_log.specs.disk_model.declared.block.Block.{Block}
+use Rattle.txn_log.specs.disk_model.declared.block.Body.{Body}
+use Rattle.txn_log.specs.disk_model.Sectors.{same_block, are_rivals}
+use Rattle.txn_log.proofs.disk_model.Frames.{same_block-is}
+use Rattle.txn_log.specs.log_page.declared.places.LogPlace.{LogPlace}
+use Rattle.txn_log.specs.log_area.Areas.{LogAreaOf}
+use Rattle.txn_log.specs.store_pools.declared.kept.KeptBody.{KeptBody}
+use Rattle.txn_log.specs.store_pools.Pools.{bodies_of}
+use Rattle.txn_log.specs.txn_model.declared.mark.Mark.{Mark}
+use Rattle.txn_log.specs.txn_model.Values.{StoreFacts, take_at}
 
 -- the facts of these fields
 abbrev pub facts_by : (place : LogPlace) (found : List Block) (is_open : Bool) (log : LogAreaOf) (body : Block → Option Body) (mark : Block → Mark) (before : Block → Option Body) (tx last commits durable : ℕ) (ends : List ℕ) (noted : Option ℕ) → StoreFacts

@@ -1,3 +1,4 @@
+pub use Rattle.txn_log.proofs as txn_log
 pub mod Blocks
 pub mod Bools
 pub mod Changes

@@ -4,17 +4,17 @@ use Rattle.std.specs.Prelude.{◌||◌, ◌==◌, IsSome, unwrap_or, slice_index
 use Rattle.std.proofs.Math.Path.{fun_ext}
 use Rattle.std.proofs.lemmas.Bool.{eqb-true}
 use Rattle.std.proofs.lemmas.List.{get_or_default}
-use Rattle.disk_model.specs.declared.block.Block.{Block}
-use Rattle.disk_model.specs.declared.block.Body.{Body}
-use Rattle.disk_model.specs.Sectors.{same_block, are_rivals}
-use Rattle.disk_model.proofs.Frames.{same_block-is}
-use Rattle.log_model.specs.Logs.{is_in_grid}
-use Rattle.log_area.specs.Areas.{LogAreaOf, place_at}
-use Rattle.block_pool.specs.Pools.{held}
-use Rattle.store_pools.specs.Pools.{marks_of}
-use Rattle.txn_model.specs.declared.mark.Mark.{Mark}
-use Rattle.txn_model.specs.Values.{no_mark, StoreFacts, take_at}
-use Rattle.txn_model.specs.Calls.{changed_mark, rival_mark, changed_marks, is_noted, written_out_marks, sent_out_marks, durable_after, rivals_of}
+use Rattle.txn_log.specs.disk_model.declared.block.Block.{Block}
+use Rattle.txn_log.specs.disk_model.declared.block.Body.{Body}
+use Rattle.txn_log.specs.disk_model.Sectors.{same_block, are_rivals}
+use Rattle.txn_log.proofs.disk_model.Frames.{same_block-is}
+use Rattle.txn_log.specs.log_model.Logs.{is_in_grid}
+use Rattle.txn_log.specs.log_area.Areas.{LogAreaOf, place_at}
+use Rattle.txn_log.specs.block_pool.Pools.{held}
+use Rattle.txn_log.specs.store_pools.Pools.{marks_of}
+use Rattle.txn_log.specs.txn_model.declared.mark.Mark.{Mark}
+use Rattle.txn_log.specs.txn_model.Values.{no_mark, StoreFacts, take_at}
+use Rattle.txn_log.specs.txn_model.Calls.{changed_mark, rival_mark, changed_marks, is_noted, written_out_marks, sent_out_marks, durable_after, rivals_of}
 use Rattle.txn_state.specs.States.{IsStore}
 use Rattle.txn_state.specs.Turning.{turned_all}
 use Rattle.txn_state.proofs.Bools.{true≢false, or_false, unless, no_rival_of_itself, same_no_rival}

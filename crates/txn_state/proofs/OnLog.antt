@@ -1,12 +1,12 @@
 -- What a store keeps of its log, and of its numbers, call by call.
 use Rattle.std.proofs.Common.{◌≡◌, ℕ, suc, ◌+◌, ◌-◌, ◌^◌, ◌<◌, ◌≤◌, Bool, true, false, cond, List, [], ◌∷◌, length, Option, Some, None, refl, sym, ap, ◌∙◌, arith}
 use Rattle.std.specs.Prelude.{IfSome}
-use Rattle.log_model.specs.declared.entry.Entry.{Entry}
-use Rattle.log_model.specs.declared.entry.Act.{Act}
-use Rattle.log_model.specs.Entries.{entry_size}
-use Rattle.log_page.specs.declared.places.LogPlace.{LogPlace}
-use Rattle.log_area.specs.Areas.{LogAreaOf, ring_size, is_filling, fits, appended, sealed_area, synced_area}
-use Rattle.txn_model.specs.Pieces.{next_entry, log_with}
+use Rattle.txn_log.specs.log_model.declared.entry.Entry.{Entry}
+use Rattle.txn_log.specs.log_model.declared.entry.Act.{Act}
+use Rattle.txn_log.specs.log_model.Entries.{entry_size}
+use Rattle.txn_log.specs.log_page.declared.places.LogPlace.{LogPlace}
+use Rattle.txn_log.specs.log_area.Areas.{LogAreaOf, ring_size, is_filling, fits, appended, sealed_area, synced_area}
+use Rattle.txn_log.specs.txn_model.Pieces.{next_entry, log_with}
 use Rattle.txn_state.specs.States.{KeepsLog, KeepsNumbers}
 use Rattle.txn_state.proofs.Bools.{true≢false}
 

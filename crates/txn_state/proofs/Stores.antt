@@ -1,17 +1,17 @@
 -- Each call leaves what is always so of a store.
 use Rattle.std.proofs.Common.{◌≡◌, ℕ, suc, Bool, true, false, not, List, [], ◌∷◌, length, Option, Some, None, refl, sym, ap, subst, ◌∙◌}
 use Rattle.std.specs.Prelude.{◌&&◌, ◌||◌, nat_le, is_some}
-use Rattle.disk_model.specs.declared.block.Block.{Block}
-use Rattle.disk_model.specs.declared.block.Body.{Body}
-use Rattle.disk_model.specs.Bytes.{written}
-use Rattle.disk_model.proofs.Frames.{length-written}
-use Rattle.log_model.specs.declared.entry.Act.TheVariants.{Commit}
-use Rattle.log_model.specs.Logs.{is_in_grid}
-use Rattle.log_area.specs.Areas.{ring_size, sealed_area, synced_area}
-use Rattle.txn_model.specs.declared.mark.Mark.{Mark}
-use Rattle.txn_model.specs.Values.{StoreFacts}
-use Rattle.txn_model.specs.Pieces.{log_with, ends_with}
-use Rattle.txn_model.specs.Calls.{change_acts, changed_facts, committed_facts, given_up_facts, noted_facts, synced_facts, is_ready, written_out_facts, sent_out_facts, again_facts}
+use Rattle.txn_log.specs.disk_model.declared.block.Block.{Block}
+use Rattle.txn_log.specs.disk_model.declared.block.Body.{Body}
+use Rattle.txn_log.specs.disk_model.Bytes.{written}
+use Rattle.txn_log.proofs.disk_model.Frames.{length-written}
+use Rattle.txn_log.specs.log_model.declared.entry.Act.TheVariants.{Commit}
+use Rattle.txn_log.specs.log_model.Logs.{is_in_grid}
+use Rattle.txn_log.specs.log_area.Areas.{ring_size, sealed_area, synced_area}
+use Rattle.txn_log.specs.txn_model.declared.mark.Mark.{Mark}
+use Rattle.txn_log.specs.txn_model.Values.{StoreFacts}
+use Rattle.txn_log.specs.txn_model.Pieces.{log_with, ends_with}
+use Rattle.txn_log.specs.txn_model.Calls.{change_acts, changed_facts, committed_facts, given_up_facts, noted_facts, synced_facts, is_ready, written_out_facts, sent_out_facts, again_facts}
 use Rattle.txn_state.specs.States.{KeepsNumbers, IsStore, MayChange}
 use Rattle.txn_state.proofs.Bools.{true≢false}
 use Rattle.txn_state.proofs.Blocks.{committed_blocks, given_up_blocks, noted_blocks, synced_blocks, written_out_blocks, sent_out_blocks, again_blocks}

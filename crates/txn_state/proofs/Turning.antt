@@ -6,19 +6,19 @@ use Rattle.std.specs.Option.{option_map}
 use Rattle.std.proofs.Math.Path.{fun_ext}
 use Rattle.std.proofs.lemmas.Bool.{cases_Bool}
 use Rattle.std.proofs.lemmas.List.{drop_more, drop_all}
-use Rattle.disk_model.specs.declared.block.Block.{Block}
-use Rattle.disk_model.specs.declared.block.Body.{Body}
-use Rattle.disk_model.specs.Sectors.{same_block, are_rivals}
-use Rattle.disk_model.proofs.Frames.{same_block-is}
-use Rattle.log_model.specs.Logs.{is_in_grid}
-use Rattle.block_pool.specs.Pools.{held, with_block, without_block, turned_values}
-use Rattle.block_pool.proofs.LookUps.{looks_up}
-use Rattle.store_pools.specs.declared.kept.KeptBody.{KeptBody}
-use Rattle.store_pools.specs.Pools.{body_of_kept, bodies_of, marks_of}
-use Rattle.store_pools.proofs.Pools.{held_without, held_with, marks_with}
-use Rattle.txn_model.specs.declared.mark.Mark.{Mark}
-use Rattle.txn_model.specs.Values.{no_mark, put_at, take_at}
-use Rattle.txn_model.specs.Calls.{rivals_of, noted_mark}
+use Rattle.txn_log.specs.disk_model.declared.block.Block.{Block}
+use Rattle.txn_log.specs.disk_model.declared.block.Body.{Body}
+use Rattle.txn_log.specs.disk_model.Sectors.{same_block, are_rivals}
+use Rattle.txn_log.proofs.disk_model.Frames.{same_block-is}
+use Rattle.txn_log.specs.log_model.Logs.{is_in_grid}
+use Rattle.txn_log.specs.block_pool.Pools.{held, with_block, without_block, turned_values}
+use Rattle.txn_log.proofs.block_pool.LookUps.{looks_up}
+use Rattle.txn_log.specs.store_pools.declared.kept.KeptBody.{KeptBody}
+use Rattle.txn_log.specs.store_pools.Pools.{body_of_kept, bodies_of, marks_of}
+use Rattle.txn_log.proofs.store_pools.Pools.{held_without, held_with, marks_with}
+use Rattle.txn_log.specs.txn_model.declared.mark.Mark.{Mark}
+use Rattle.txn_log.specs.txn_model.Values.{no_mark, put_at, take_at}
+use Rattle.txn_log.specs.txn_model.Calls.{rivals_of, noted_mark}
 use Rattle.txn_state.specs.Turning.{turned_at, turned_all}
 use Rattle.txn_state.proofs.Bools.{clash}
 use Rattle.txn_log.proofs.Sharing.{same_self, among_is}

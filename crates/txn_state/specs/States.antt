@@ -1,17 +1,17 @@
 -- What a store of blocks holds in memory, and what of it is always so.
 use Rattle.std.specs.Prelude.{◌≡◌, ℕ, ◌+◌, ◌*◌, ◌^◌, ◌<◌, ◌≤◌, ◌||◌, Bool, true, false, List, length, Option, None, IfSome, is_some}
-use Rattle.disk_model.specs.declared.block.Block.{Block}
-use Rattle.disk_model.specs.declared.block.Body.{Body}
-use Rattle.disk_model.specs.Sectors.{sectors, are_rivals}
-use Rattle.log_model.specs.Logs.{is_in_grid}
-use Rattle.log_page.specs.declared.places.LogPlace.{LogPlace}
-use Rattle.log_area.specs.Areas.{LogAreaOf, ring_size}
-use Rattle.store_pools.specs.declared.kept.KeptBody.{KeptBody}
-use Rattle.store_pools.specs.Pools.{bodies_of, marks_of}
-use Rattle.txn_model.specs.declared.mark.Mark.{Mark}
-use Rattle.txn_model.specs.Values.{no_mark, StoreFacts}
-use Rattle.txn_model.specs.Calls.{change_acts}
-use Rattle.txn_model.specs.Appending.{MayAppendAll}
+use Rattle.txn_log.specs.disk_model.declared.block.Block.{Block}
+use Rattle.txn_log.specs.disk_model.declared.block.Body.{Body}
+use Rattle.txn_log.specs.disk_model.Sectors.{sectors, are_rivals}
+use Rattle.txn_log.specs.log_model.Logs.{is_in_grid}
+use Rattle.txn_log.specs.log_page.declared.places.LogPlace.{LogPlace}
+use Rattle.txn_log.specs.log_area.Areas.{LogAreaOf, ring_size}
+use Rattle.txn_log.specs.store_pools.declared.kept.KeptBody.{KeptBody}
+use Rattle.txn_log.specs.store_pools.Pools.{bodies_of, marks_of}
+use Rattle.txn_log.specs.txn_model.declared.mark.Mark.{Mark}
+use Rattle.txn_log.specs.txn_model.Values.{no_mark, StoreFacts}
+use Rattle.txn_log.specs.txn_model.Calls.{change_acts}
+use Rattle.txn_log.specs.txn_model.Appending.{MayAppendAll}
 
 -- What a store holds: its fields, with lists for its pools.
 pub record StateOf : Type 0 where

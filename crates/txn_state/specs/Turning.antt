@@ -1,8 +1,8 @@
 -- Marks of blocks that are changed one after the other.
 use Rattle.std.specs.Prelude.{if◌then◌else◌, List, [], ◌∷◌}
-use Rattle.disk_model.specs.declared.block.Block.{Block}
-use Rattle.disk_model.specs.Sectors.{same_block}
-use Rattle.txn_model.specs.declared.mark.Mark.{Mark}
+use Rattle.txn_log.specs.disk_model.declared.block.Block.{Block}
+use Rattle.txn_log.specs.disk_model.Sectors.{same_block}
+use Rattle.txn_log.specs.txn_model.declared.mark.Mark.{Mark}
 
 -- the marks with that of one block changed
 abbrev pub turned_at : (Mark → Mark) → Block → (Block → Mark) → Block → Mark

@@ -1,21 +1,17 @@
 //! A change of a block.
 ghost use Rattle.std.specs.Prelude.{◌≡◌, IfOk, IsSome, OnOk, OnErr, if◌then◌else◌};
-ghost use Rattle.disk_model.specs.Sectors.{same_block};
-ghost use Rattle.block_pool.specs.Pools.{held};
-ghost use Rattle.store_pools.specs.Pools.{body_of_kept, marks_of};
-ghost use Rattle.txn_model.specs.Calls.{changed_mark, rival_mark, change_acts, changed_facts, given_up_facts};
+ghost use Rattle.txn_log.specs.disk_model.Sectors.{same_block};
+ghost use Rattle.txn_log.specs.block_pool.Pools.{held};
+ghost use Rattle.txn_log.specs.store_pools.Pools.{body_of_kept, marks_of};
+ghost use Rattle.txn_log.specs.txn_model.Calls.{changed_mark, rival_mark, change_acts, changed_facts, given_up_facts};
 ghost use Rattle.txn_state.specs.States.{facts_of, MayChange};
 
 use crate::keeping::{changed_body, keep};
 use crate::marks::{mark_of, set_mark};
 use crate::rivals::turn_rivals;
 use crate::state::StoreState;
-use block_pool::{Pool, Turns};
-use disk_model::Block;
-use log_model::Act;
 use std::alloc::{AllocError, Global};
-use store_pools::{KeptBody, Mark, changed, ousted};
-use txn_log::{append_acts, update_acts};
+use txn_log::{Act, Block, KeptBody, Mark, Pool, Turns, append_acts, changed, ousted, update_acts};
 
 // A rival of the block was changed, by entries on pages of the log before this one.
 #[derive(Clone, Copy, Drop)]
@@ -24,7 +20,7 @@ struct Ousted {
 }
 
 impl Turns<Mark> for Ousted {
-    ghost use Rattle.txn_model.specs.Calls.{rival_mark};
+    ghost use Rattle.txn_log.specs.txn_model.Calls.{rival_mark};
 
     ghost turned = { λ s m. rival_mark s.until m };
 

@@ -1,14 +1,13 @@
 //! Transactions begin and end.
 ghost use Rattle.std.specs.Prelude.{◌≡◌, ◌<◌, ◌^◌, true, false};
-ghost use Rattle.log_model.specs.declared.entry.Act.TheVariants.{Commit};
-ghost use Rattle.txn_model.specs.Appending.{MayAppend};
-ghost use Rattle.txn_model.specs.Calls.{begun_facts, committed_facts, given_up_facts};
-ghost use Rattle.txn_model.specs.Pieces.{next_entry};
+ghost use Rattle.txn_log.specs.log_model.declared.entry.Act.TheVariants.{Commit};
+ghost use Rattle.txn_log.specs.txn_model.Appending.{MayAppend};
+ghost use Rattle.txn_log.specs.txn_model.Calls.{begun_facts, committed_facts, given_up_facts};
+ghost use Rattle.txn_log.specs.txn_model.Pieces.{next_entry};
 ghost use Rattle.txn_state.specs.States.{facts_of};
 
 use crate::state::StoreState;
-use store_pools::{mark_commits, restore};
-use txn_log::append_commit;
+use txn_log::{append_commit, mark_commits, restore};
 
 impl StoreState {
     /// Begins a transaction, where none is open. Its number is that of `tx`; there are fewer than

@@ -1,16 +1,14 @@
 //! Bodies that a change keeps.
 ghost use Rattle.std.specs.Prelude.{◌≡◌, ◌+◌, ◌≤◌, true, false, None, IfOk, OnOk, OnErr, IsSome, length, unwrap_or};
-ghost use Rattle.disk_model.specs.Bytes.{written};
-ghost use Rattle.block_pool.specs.Pools.{held};
-ghost use Rattle.store_pools.specs.Pools.{body_of_kept, bodies_of, marks_of};
-ghost use Rattle.txn_model.specs.Values.{put_at};
+ghost use Rattle.txn_log.specs.disk_model.Bytes.{written};
+ghost use Rattle.txn_log.specs.block_pool.Pools.{held};
+ghost use Rattle.txn_log.specs.store_pools.Pools.{body_of_kept, bodies_of, marks_of};
+ghost use Rattle.txn_log.specs.txn_model.Values.{put_at};
 
 use crate::marks::mark_block;
-use block_pool::Pool;
-use disk_model::{Block, put_bytes};
 use host_base::Bytes;
 use std::alloc::{AllocError, Global};
-use store_pools::{KeptBody, Mark};
+use txn_log::{Block, KeptBody, Mark, Pool, put_bytes};
 
 /// The body with these bytes over its own from `at` on. The error is want of memory.
 pub fn changed_body(

@@ -18,3 +18,4 @@ mod starting;
 mod state;
 
 pub use state::StoreState;
+pub use txn_log::{KeptBody, Mark, pages_are_enough, pages_for, rival, rival_count};

@@ -1,20 +1,19 @@
 //! The log's steps.
 ghost use Rattle.std.specs.Prelude.{◌≡◌, ◌<◌, ◌≤◌, None, OnOk, OnErr, IfSome, ◌^◌, is_some, if◌then◌else◌};
-ghost use Rattle.fixup_record.specs.Protecting.{protected_bytes};
+ghost use Rattle.txn_log.specs.fixup_record.Protecting.{protected_bytes};
 ghost use Rattle.host_base.specs.Causes.{FailsByCause};
-ghost use Rattle.log_area.specs.Areas.{page_sector, held_page, made_page, IsOldest, lap_at, next_number, restart_sector, sent_word, page_to_send, named_area};
-ghost use Rattle.log_page.specs.Places.{sequence_bits};
-ghost use Rattle.log_page.specs.Restarts.{restart_spelling};
-ghost use Rattle.log_area.specs.Calls.{IsSentOrNot};
-ghost use Rattle.sector_device.specs.Moments.{moment_after, Syncs};
-ghost use Rattle.txn_model.specs.Calls.{sealed_facts, noted_facts, written_facts, durable_after, synced_facts};
+ghost use Rattle.txn_log.specs.log_area.Areas.{page_sector, held_page, made_page, IsOldest, lap_at, next_number, restart_sector, sent_word, page_to_send, named_area};
+ghost use Rattle.txn_log.specs.log_page.Places.{sequence_bits};
+ghost use Rattle.txn_log.specs.log_page.Restarts.{restart_spelling};
+ghost use Rattle.txn_log.specs.log_area.Calls.{IsSentOrNot};
+ghost use Rattle.txn_log.specs.sector_device.Moments.{moment_after, Syncs};
+ghost use Rattle.txn_log.specs.txn_model.Calls.{sealed_facts, noted_facts, written_facts, durable_after, synced_facts};
 ghost use Rattle.txn_state.specs.States.{facts_of};
 
 use crate::noting::note;
 use crate::state::StoreState;
 use host_base::Failed;
-use sector_device::Device;
-use store_pools::settle;
+use txn_log::{Device, settle};
 
 impl StoreState {
     /// Seals the page of the log that is filled, if it has an entry.

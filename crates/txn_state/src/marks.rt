@@ -1,15 +1,13 @@
 //! Marks of blocks, one at a time.
 ghost use Rattle.std.specs.Prelude.{◌≡◌, IsSome, OnOk, if◌then◌else◌};
-ghost use Rattle.disk_model.specs.Sectors.{same_block};
-ghost use Rattle.block_pool.specs.Pools.{held, with_block};
-ghost use Rattle.store_pools.specs.Pools.{marks_of};
-ghost use Rattle.txn_model.specs.Values.{no_mark};
+ghost use Rattle.txn_log.specs.disk_model.Sectors.{same_block};
+ghost use Rattle.txn_log.specs.block_pool.Pools.{held, with_block};
+ghost use Rattle.txn_log.specs.store_pools.Pools.{marks_of};
+ghost use Rattle.txn_log.specs.txn_model.Values.{no_mark};
 ghost use Rattle.txn_state.specs.Turning.{turned_at};
 
-use block_pool::{Pool, Turns};
-use disk_model::Block;
 use std::alloc::AllocError;
-use store_pools::Mark;
+use txn_log::{Block, Mark, Pool, Turns};
 
 // A block that is plainly clean.
 const NO_MARK: Mark = Mark {

@@ -1,17 +1,16 @@
 //! What a checkpoint notes of blocks.
 ghost use Rattle.std.specs.Prelude.{◌≡◌};
-ghost use Rattle.store_pools.specs.Pools.{marks_of};
-ghost use Rattle.txn_model.specs.Calls.{noted_mark};
+ghost use Rattle.txn_log.specs.store_pools.Pools.{marks_of};
+ghost use Rattle.txn_log.specs.txn_model.Calls.{noted_mark};
 
-use block_pool::{Pool, Turns};
-use store_pools::Mark;
+use txn_log::{Mark, Pool, Turns};
 
 // A checkpoint begins.
 #[derive(Clone, Copy, Drop)]
 struct Noted;
 
 impl Turns<Mark> for Noted {
-    ghost use Rattle.txn_model.specs.Calls.{noted_mark};
+    ghost use Rattle.txn_log.specs.txn_model.Calls.{noted_mark};
 
     ghost turned = { λ s m. noted_mark m };
 

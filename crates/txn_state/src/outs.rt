@@ -1,18 +1,16 @@
 //! Blocks are written out.
 ghost use Rattle.std.specs.Prelude.{◌≡◌, Bool, true, false, ◌||◌, None, if◌then◌else◌};
 ghost use Rattle.std.specs.List.{list_any};
-ghost use Rattle.disk_model.specs.Sectors.{same_block};
-ghost use Rattle.log_model.specs.Logs.{is_in_grid};
-ghost use Rattle.store_pools.specs.Pools.{marks_of};
-ghost use Rattle.txn_model.specs.Calls.{is_noted, is_ready, rivals_of, written_out_facts, sent_out_facts, again_facts};
+ghost use Rattle.txn_log.specs.disk_model.Sectors.{same_block};
+ghost use Rattle.txn_log.specs.log_model.Logs.{is_in_grid};
+ghost use Rattle.txn_log.specs.store_pools.Pools.{marks_of};
+ghost use Rattle.txn_log.specs.txn_model.Calls.{is_noted, is_ready, rivals_of, written_out_facts, sent_out_facts, again_facts};
 ghost use Rattle.txn_state.specs.States.{facts_of};
 
 use crate::marks::{mark_of, set_mark};
 use crate::rivals::{drop_rivals, owes_rival, turn_rivals};
 use crate::state::StoreState;
-use block_pool::{Pool, Turns};
-use disk_model::Block;
-use store_pools::Mark;
+use txn_log::{Block, Mark, Pool, Turns};
 
 // A rival of the block was written out.
 #[derive(Clone, Copy, Drop)]

@@ -1,18 +1,15 @@
 //! The rivals of a block.
 ghost use Rattle.std.specs.Prelude.{◌≡◌, true, None, if◌then◌else◌};
 ghost use Rattle.std.specs.List.{list_any};
-ghost use Rattle.disk_model.specs.Sectors.{same_block};
-ghost use Rattle.log_model.specs.Logs.{is_in_grid};
-ghost use Rattle.store_pools.specs.Pools.{bodies_of, marks_of};
-ghost use Rattle.txn_model.specs.Calls.{rivals_of};
-ghost use Rattle.txn_model.specs.Values.{no_mark};
+ghost use Rattle.txn_log.specs.disk_model.Sectors.{same_block};
+ghost use Rattle.txn_log.specs.log_model.Logs.{is_in_grid};
+ghost use Rattle.txn_log.specs.store_pools.Pools.{bodies_of, marks_of};
+ghost use Rattle.txn_log.specs.txn_model.Calls.{rivals_of};
+ghost use Rattle.txn_log.specs.txn_model.Values.{no_mark};
 ghost use Rattle.txn_state.specs.Turning.{turned_all};
 
 use crate::marks::{mark_of, turn_at};
-use block_pool::{Pool, Turns};
-use disk_model::Block;
-use store_pools::{KeptBody, Mark};
-use txn_log::{rival, rival_count};
+use txn_log::{Block, KeptBody, Mark, Pool, Turns, rival, rival_count};
 
 /// Changes the marks of the rivals of a block that begin where their kind may.
 pub fn turn_rivals<F: Turns<Mark>>(marks: &mut Pool<Mark>, block: Block, change: &F)

@@ -1,15 +1,12 @@
 //! A store in memory that was taken before.
 ghost use Rattle.std.specs.Prelude.{◌≡◌, replicate};
-ghost use Rattle.log_area.specs.Areas.{ring_size};
-ghost use Rattle.txn_model.specs.Calls.{first_facts};
+ghost use Rattle.txn_log.specs.log_area.Areas.{ring_size};
+ghost use Rattle.txn_log.specs.txn_model.Calls.{first_facts};
 ghost use Rattle.txn_state.specs.States.{facts_of};
 
 use crate::state::StoreState;
-use block_pool::Pool;
-use disk_model::Block;
-use log_area::LogArea;
-use log_page::LogPlace;
 use std::alloc::Global;
+use txn_log::{Block, LogArea, LogPlace, Pool};
 
 impl StoreState {
     /// A store at its start, as [`StoreState::start`] makes it, in memory that was taken before:

@@ -1,18 +1,14 @@
 //! A store in memory.
 ghost use Rattle.std.specs.Prelude.{◌≡◌, IfOk, is_some};
 ghost use Rattle.std.specs.Option.{option_copied, option_map};
-ghost use Rattle.store_pools.specs.Pools.{body_of_kept};
-ghost use Rattle.txn_model.specs.Calls.{first_facts, is_ready};
+ghost use Rattle.txn_log.specs.store_pools.Pools.{body_of_kept};
+ghost use Rattle.txn_log.specs.txn_model.Calls.{first_facts, is_ready};
 ghost use Rattle.txn_state.specs.States.{facts_of};
 
 use crate::marks::mark_of;
-use block_pool::Pool;
-use disk_model::Block;
-use log_area::LogArea;
-use log_page::LogPlace;
 use std::alloc::{AllocError, Global};
 use std::marker::Model;
-use store_pools::{KeptBody, Mark};
+use txn_log::{Block, KeptBody, LogArea, LogPlace, Mark, Pool};
 
 /// What a store of blocks holds in memory.
 #[derive(Debug, Drop)]

@@ -7,8 +7,8 @@ use Rattle.std.specs.Ordering.{nat_cmp, is_eq, ordering_then, ordering_reverse}
 use Rattle.std.specs.declared.cmp.Ordering.{Ordering}
 use Rattle.std.specs.declared.cmp.Ordering.TheVariants.{Less, Equal, Greater}
 use Rattle.std.proofs.lemmas.Cmp.{nat_list_cmp_total, nat_list_eq_equiv, on_equiv, tied_itself}
-use Rattle.file_tree.specs.Names.{upper_units, name_order, same_name}
-use Rattle.file_tree.proofs.NameOrders.{name_order_total}
+use Rattle.index_model.specs.file_tree.Names.{upper_units, name_order, same_name}
+use Rattle.index_model.proofs.file_tree.NameOrders.{name_order_total}
 
 -- lists that compare as equal are equal
 equal_lists : (a b : List ℕ) → slice_cmp nat_cmp a b ≡ Equal → a ≡ b

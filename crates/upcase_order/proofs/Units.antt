@@ -2,8 +2,8 @@
 use Rattle.std.proofs.Common.{◌≡◌, ℕ, ◌+◌, ◌*◌, ◌<◌, List, length, slice_index, ap, ◌∙◌, refl, arith, Ok, Err, eq-eqb}
 use Rattle.std.proofs.lemmas.List.FromFn.{fill_by_all, length-map-range_with_len, get_or-map-range_with_len}
 use Rattle.byteorder.specs.Endian.{IsRead, little_number}
-use Rattle.disk_model.specs.Numbers.{field}
-use Rattle.record_model.specs.Attributes.{units_at}
+use Rattle.index_model.specs.disk_model.Numbers.{field}
+use Rattle.index_model.specs.record_model.Attributes.{units_at}
 use Rattle.std.proofs.lemmas.Bool.{ne_eqb}
 use Rattle.upcase_order.specs.declared.upcase.UpcaseFault.TheVariants.{Length}
 use Rattle.upcase_order.specs.Tables.{upcase_of, standard_upper, standard_units, standard_table}

@@ -2,7 +2,7 @@
 use Rattle.std.specs.Prelude.{◌≡◌, ◌≢◌, ◌↔◌, ◌<◌, ℕ, List, IsTrue, length, slice_index}
 use Rattle.std.specs.Cmp.{IsTotalOrder, IsEquivalence}
 use Rattle.std.specs.declared.cmp.Ordering.TheVariants.{Equal, Greater}
-use Rattle.file_tree.specs.Names.{upper_units, name_order, same_name}
+use Rattle.index_model.specs.file_tree.Names.{upper_units, name_order, same_name}
 use Rattle.upcase_order.specs.Tables.{standard_upper, standard_table}
 
 -- any two names compare, and comparing goes along

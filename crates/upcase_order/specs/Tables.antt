@@ -1,8 +1,8 @@
 -- The table of upper-case units: reading it, and the one of a volume that this project formats.
 use Rattle.std.specs.Prelude.{ℕ, ◌-◌, ◌&&◌, ◌==◌, nat_le, if◌then◌else◌, List, length, map, Result, Ok}
 use Rattle.std.specs.List.{range_with_len}
-use Rattle.host_base.specs.Answers.{◌>>=◌, needs, Cause, refused, no_memory}
-use Rattle.record_model.specs.Attributes.{units_at}
+use Rattle.index_model.specs.host_base.Answers.{◌>>=◌, needs, Cause, refused, no_memory}
+use Rattle.index_model.specs.record_model.Attributes.{units_at}
 use Rattle.upcase_order.specs.declared.upcase.UpcaseFault.{UpcaseFault}
 use Rattle.upcase_order.specs.declared.upcase.UpcaseFault.TheVariants.{Length, Memory}
 

@@ -8,6 +8,7 @@
 mod laws;
 mod upcase;
 
+pub use index_model::{Link, LinkList, Name, Node, Run, Runs};
 pub use laws::{
     equals_are_same, equals_have_equal_units, order_is_total, same_have_equal_upper_units,
     same_is_equivalence, same_stand_together, standard_table_gives,

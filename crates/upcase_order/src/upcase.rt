@@ -1,13 +1,12 @@
 ghost use Rattle.std.specs.Prelude.{◌≡◌, ◌+◌, ◌-◌, ◌*◌, ◌<◌, ◌≤◌, IfOk, length};
-ghost use Rattle.host_base.specs.Answers.{Gives};
-ghost use Rattle.record_model.specs.Attributes.{units_at};
-ghost use Rattle.file_tree.specs.Names.{name_order, same_name};
+ghost use Rattle.index_model.specs.host_base.Answers.{Gives};
+ghost use Rattle.index_model.specs.record_model.Attributes.{units_at};
+ghost use Rattle.index_model.specs.file_tree.Names.{name_order, same_name};
 ghost use Rattle.upcase_order.specs.declared.upcase.UpcaseFault.TheVariants.{Memory as no_memory};
 ghost use Rattle.upcase_order.specs.Tables.{upcase_of, upcase_cause, standard_upper, standard_units, standard_table};
 
 use byteorder::{ByteOrder, LittleEndian};
-use file_tree::{compare_names, is_same_name};
-use host_base::Memory;
+use index_model::{Memory, compare_names, is_same_name};
 use std::alloc::{AllocError, Global};
 use std::cmp::Ordering;
 use std::marker::Model;

@@ -8,20 +8,20 @@ use Rattle.std.proofs.lemmas.Bool.{cases_Bool, eq-eqb}
 use Rattle.std.proofs.lemmas.List.Elements.{filter_agree, filter-append}
 use Rattle.std.proofs.lemmas.List.Folds.{list_any-append}
 use Rattle.std.proofs.lemmas.List.Sorted.{list_any-IsPermutation, IsPermutation-append_left}
-use Rattle.record_model.specs.declared.attribute.Attr.{Attr}
-use Rattle.record_model.specs.Attributes.{is_compressed_or_sparse, spelling}
-use Rattle.record_model.specs.Pairs.{pairs_of}
-use Rattle.record_model.specs.Records.{Record, spelled_bytes, used_of}
-use Rattle.record_model.proofs.UnitBytes.{length-zeros}
-use Rattle.record_writer.specs.Edits.{whole_length}
-use Rattle.record_writer.specs.Normal.{normal}
-use Rattle.record_writer.proofs.Measures.{length-spelling}
-use Rattle.state_model.specs.declared.stream.Extents.{Extents}
-use Rattle.state_model.specs.Loads.{total_clusters}
-use Rattle.state_model.specs.Streams.{first_vcn, is_attribute_of, with_attribute, sorted_into, attributes_of}
-use Rattle.record_streams.specs.Placing.{without_stream, with_stream, held_clusters, placed_attr as written_attr, placed_first, placed_record}
-use Rattle.record_streams.proofs.Kept.{with_none, with_one}
-use Rattle.record_streams.proofs.Streams.{attribute_kind, first_passes, some_by, placed_others}
+use Rattle.draft_records.specs.record_model.declared.attribute.Attr.{Attr}
+use Rattle.draft_records.specs.record_model.Attributes.{is_compressed_or_sparse, spelling}
+use Rattle.draft_records.specs.record_model.Pairs.{pairs_of}
+use Rattle.draft_records.specs.record_model.Records.{Record, spelled_bytes, used_of}
+use Rattle.draft_records.proofs.record_model.UnitBytes.{length-zeros}
+use Rattle.step_model.specs.record_writer.Edits.{whole_length}
+use Rattle.step_model.specs.record_writer.Normal.{normal}
+use Rattle.step_model.proofs.record_writer.Measures.{length-spelling}
+use Rattle.draft_records.specs.state_model.declared.stream.Extents.{Extents}
+use Rattle.draft_records.specs.state_model.Loads.{total_clusters}
+use Rattle.draft_records.specs.state_model.Streams.{first_vcn, is_attribute_of, with_attribute, sorted_into, attributes_of}
+use Rattle.record_values.specs.record_streams.Placing.{without_stream, with_stream, held_clusters, placed_attr as written_attr, placed_first, placed_record}
+use Rattle.record_values.proofs.record_streams.Kept.{with_none, with_one}
+use Rattle.record_values.proofs.record_streams.Streams.{attribute_kind, first_passes, some_by, placed_others}
 use Rattle.record_values.specs.Values.{valued_attr, valued_first, valued_record}
 use Rattle.record_values.proofs.Valued.{values_put}
 use Rattle.draft_records.specs.Records.{with_normal, written_bytes}

@@ -3,17 +3,17 @@ use Rattle.std.proofs.Common.{◌≡◌, ℕ, ◌+◌, Bool, true, false, cond, 
 use Rattle.std.specs.Prelude.{not, filter, nat_le}
 use Rattle.std.proofs.lemmas.Bool.{cases_Bool, cases_lt, lt-ltb, le-ltb, lt-leb, le-leb}
 use Rattle.host_base.specs.Answers.{needs}
-use Rattle.disk_model.proofs.Fields.{length-spell}
-use Rattle.record_model.specs.declared.attribute.Attr.{Attr}
-use Rattle.record_model.specs.declared.attribute.OwnForm.{OwnForm}
-use Rattle.record_model.specs.declared.attribute.OwnForm.TheVariants.{Resident, Mapped}
-use Rattle.record_model.specs.Attributes.{held_bytes, spelling}
-use Rattle.record_model.specs.Records.{Record, spelled_bytes, used_of}
-use Rattle.record_model.proofs.UnitBytes.{length-filled}
-use Rattle.record_writer.specs.Edits.{form_length}
-use Rattle.record_writer.specs.Normal.{normal, normal_form}
-use Rattle.record_writer.proofs.Measures.{length-spelling}
-use Rattle.tree_model.specs.declared.reply.Reply.TheVariants.{RecordFull}
+use Rattle.step_model.proofs.disk_model.Fields.{length-spell}
+use Rattle.draft_records.specs.record_model.declared.attribute.Attr.{Attr}
+use Rattle.draft_records.specs.record_model.declared.attribute.OwnForm.{OwnForm}
+use Rattle.draft_records.specs.record_model.declared.attribute.OwnForm.TheVariants.{Resident, Mapped}
+use Rattle.draft_records.specs.record_model.Attributes.{held_bytes, spelling}
+use Rattle.draft_records.specs.record_model.Records.{Record, spelled_bytes, used_of}
+use Rattle.draft_records.proofs.record_model.UnitBytes.{length-filled}
+use Rattle.step_model.specs.record_writer.Edits.{form_length}
+use Rattle.step_model.specs.record_writer.Normal.{normal, normal_form}
+use Rattle.step_model.proofs.record_writer.Measures.{length-spelling}
+use Rattle.step_model.specs.tree_model.declared.reply.Reply.TheVariants.{RecordFull}
 use Rattle.draft_records.specs.Records.{written_bytes, fits_room}
 use Rattle.step_model.specs.Plans.{full_row}
 use Rattle.used_laws.specs.Laws.{reply_of, WrittenAsCounted}

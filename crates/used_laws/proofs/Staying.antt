@@ -6,36 +6,36 @@ use Rattle.std.proofs.lemmas.Bool.{cases_lt, and_parts}
 use Rattle.std.proofs.lemmas.List.{get_or_append_left, get_or-append-add, get_or_past}
 use Rattle.std.proofs.lemmas.List.Elements.{All-from_recursion, recursion_from_All, All-nil, All-cons, All-head, All-tail, All-filter, filter_agree}
 use Rattle.host_base.specs.Answers.{◌>>=◌, needs}
-use Rattle.disk_model.specs.Bytes.{up8, AreBytes}
-use Rattle.disk_model.proofs.Fields.{AreBytes-drop}
-use Rattle.record_model.specs.declared.attribute.Attr.{Attr}
-use Rattle.record_model.specs.declared.attribute.OwnForm.{OwnForm}
-use Rattle.record_model.specs.declared.attribute.OwnForm.TheVariants.{Resident, Mapped}
-use Rattle.record_model.specs.declared.attribute.Sizes.{Sizes}
-use Rattle.record_model.specs.declared.runs.Run.{Run}
-use Rattle.record_model.specs.declared.runs.PairsFault.{PairsFault}
-use Rattle.record_model.specs.Attributes.{held_bytes, is_compressed_or_sparse, spelling, FitsHeld, FitsForm, FitsAttr, SpellsForm}
-use Rattle.record_model.specs.Pairs.{signed_bytes, delta_bytes, pair_of, pairs_from, pairs_of, runs_of}
-use Rattle.record_model.specs.Records.{Record, record_at, shaped_at, has_lawful_values, spelled_bytes, used_of, SpellEach}
-use Rattle.record_model.proofs.Answering.{steps_from_ok, needs_from_ok}
-use Rattle.record_model.proofs.PairsBack.{read_spelled}
-use Rattle.record_model.proofs.PairsShortest.{shortest}
-use Rattle.record_model.proofs.PairsSigned.{length-signed_bytes, signed_width-ge, signed_width-le}
-use Rattle.record_model.proofs.Records.{AreBytes-attribute_bytes, read_is_table}
-use Rattle.record_model.proofs.Shapes.{is_shaped}
-use Rattle.record_writer.specs.Edits.{whole_length, form_length}
-use Rattle.record_writer.specs.Normal.{normal, normal_form}
-use Rattle.record_writer.proofs.Measures.{length-spelling}
-use Rattle.record_writer.proofs.NormalRoom.{all_fit_by_room}
-use Rattle.state_model.specs.declared.stream.Extents.{Extents}
-use Rattle.state_model.specs.declared.stream.Stream.{Stream}
-use Rattle.state_model.specs.declared.stream.Stream.TheVariants.{Placed}
-use Rattle.state_model.specs.Loads.{span, form_fits, has_fitting_pairs, has_all_pairs, whole_record}
-use Rattle.state_model.specs.Streams.{first_vcn, is_attribute_of, with_attribute, sorted_into, attributes_of, form_first, runs_or, form_runs, attribute_runs, form_stream, joined, stream_of}
-use Rattle.record_streams.specs.Fitting.{IsShort, FitsButRoom}
-use Rattle.record_streams.specs.Placing.{held_clusters, held_size, placed_attr as written_attr, placed_first, placed_record}
-use Rattle.record_streams.proofs.Kept.{all_of_stream}
-use Rattle.record_streams.proofs.Streams.{attribute_kind, first_passes, placed_one}
+use Rattle.step_model.specs.disk_model.Bytes.{up8, AreBytes}
+use Rattle.step_model.proofs.disk_model.Fields.{AreBytes-drop}
+use Rattle.draft_records.specs.record_model.declared.attribute.Attr.{Attr}
+use Rattle.draft_records.specs.record_model.declared.attribute.OwnForm.{OwnForm}
+use Rattle.draft_records.specs.record_model.declared.attribute.OwnForm.TheVariants.{Resident, Mapped}
+use Rattle.draft_records.specs.record_model.declared.attribute.Sizes.{Sizes}
+use Rattle.draft_records.specs.record_model.declared.runs.Run.{Run}
+use Rattle.draft_records.specs.record_model.declared.runs.PairsFault.{PairsFault}
+use Rattle.draft_records.specs.record_model.Attributes.{held_bytes, is_compressed_or_sparse, spelling, FitsHeld, FitsForm, FitsAttr, SpellsForm}
+use Rattle.draft_records.specs.record_model.Pairs.{signed_bytes, delta_bytes, pair_of, pairs_from, pairs_of, runs_of}
+use Rattle.draft_records.specs.record_model.Records.{Record, record_at, shaped_at, has_lawful_values, spelled_bytes, used_of, SpellEach}
+use Rattle.draft_records.proofs.record_model.Answering.{steps_from_ok, needs_from_ok}
+use Rattle.draft_records.proofs.record_model.PairsBack.{read_spelled}
+use Rattle.draft_records.proofs.record_model.PairsShortest.{shortest}
+use Rattle.draft_records.proofs.record_model.PairsSigned.{length-signed_bytes, signed_width-ge, signed_width-le}
+use Rattle.draft_records.proofs.record_model.Records.{AreBytes-attribute_bytes, read_is_table}
+use Rattle.draft_records.proofs.record_model.Shapes.{is_shaped}
+use Rattle.step_model.specs.record_writer.Edits.{whole_length, form_length}
+use Rattle.step_model.specs.record_writer.Normal.{normal, normal_form}
+use Rattle.step_model.proofs.record_writer.Measures.{length-spelling}
+use Rattle.step_model.proofs.record_writer.NormalRoom.{all_fit_by_room}
+use Rattle.draft_records.specs.state_model.declared.stream.Extents.{Extents}
+use Rattle.draft_records.specs.state_model.declared.stream.Stream.{Stream}
+use Rattle.draft_records.specs.state_model.declared.stream.Stream.TheVariants.{Placed}
+use Rattle.draft_records.specs.state_model.Loads.{span, form_fits, has_fitting_pairs, has_all_pairs, whole_record}
+use Rattle.draft_records.specs.state_model.Streams.{first_vcn, is_attribute_of, with_attribute, sorted_into, attributes_of, form_first, runs_or, form_runs, attribute_runs, form_stream, joined, stream_of}
+use Rattle.record_values.specs.record_streams.Fitting.{IsShort, FitsButRoom}
+use Rattle.record_values.specs.record_streams.Placing.{held_clusters, held_size, placed_attr as written_attr, placed_first, placed_record}
+use Rattle.record_values.proofs.record_streams.Kept.{all_of_stream}
+use Rattle.record_values.proofs.record_streams.Streams.{attribute_kind, first_passes, placed_one}
 use Rattle.draft_records.specs.Records.{written_bytes}
 use Rattle.step_model.specs.Used.{is_replaced, used_after}
 use Rattle.used_laws.specs.Laws.{AreFormBytes, HasBytes, IsReadMapped, IsReadForm, IsReadAttr, SizesUsed}

@@ -2,26 +2,26 @@
 use Rattle.std.specs.Prelude.{◌≡◌, ◌≢◌, ◌⊎◌, ⊤, ℕ, ◌≤◌, true, All, List, [], ◌∷◌, ◌++◌, length, Option, Some, None, Result, Ok, Err}
 use Rattle.std.specs.List.{AllByRecursion}
 use Rattle.std.specs.List.Sorted.{IsPermutation}
-use Rattle.disk_model.specs.Bytes.{AreBytes}
-use Rattle.record_model.specs.declared.attribute.Attr.{Attr}
-use Rattle.record_model.specs.declared.attribute.OwnForm.{OwnForm}
-use Rattle.record_model.specs.declared.attribute.OwnForm.TheVariants.{Resident, Mapped}
-use Rattle.record_model.specs.declared.attribute.Sizes.{Sizes}
-use Rattle.record_model.specs.declared.runs.Run.{Run}
-use Rattle.record_model.specs.Attributes.{spelling, FitsHeld}
-use Rattle.record_model.specs.Pairs.{runs_of}
-use Rattle.record_model.specs.Records.{Record, used_of}
-use Rattle.record_writer.specs.Normal.{normal}
-use Rattle.state_model.specs.declared.stream.Extents.{Extents}
-use Rattle.state_model.specs.declared.stream.Stream.TheVariants.{Placed}
-use Rattle.state_model.specs.Loads.{has_all_pairs, whole_record}
-use Rattle.state_model.specs.Streams.{first_vcn, attributes_of, stream_of}
-use Rattle.record_streams.specs.Fitting.{FitsButRoom}
-use Rattle.record_streams.specs.Placing.{placed_record}
+use Rattle.step_model.specs.disk_model.Bytes.{AreBytes}
+use Rattle.draft_records.specs.record_model.declared.attribute.Attr.{Attr}
+use Rattle.draft_records.specs.record_model.declared.attribute.OwnForm.{OwnForm}
+use Rattle.draft_records.specs.record_model.declared.attribute.OwnForm.TheVariants.{Resident, Mapped}
+use Rattle.draft_records.specs.record_model.declared.attribute.Sizes.{Sizes}
+use Rattle.draft_records.specs.record_model.declared.runs.Run.{Run}
+use Rattle.draft_records.specs.record_model.Attributes.{spelling, FitsHeld}
+use Rattle.draft_records.specs.record_model.Pairs.{runs_of}
+use Rattle.draft_records.specs.record_model.Records.{Record, used_of}
+use Rattle.step_model.specs.record_writer.Normal.{normal}
+use Rattle.draft_records.specs.state_model.declared.stream.Extents.{Extents}
+use Rattle.draft_records.specs.state_model.declared.stream.Stream.TheVariants.{Placed}
+use Rattle.draft_records.specs.state_model.Loads.{has_all_pairs, whole_record}
+use Rattle.draft_records.specs.state_model.Streams.{first_vcn, attributes_of, stream_of}
+use Rattle.record_values.specs.record_streams.Fitting.{FitsButRoom}
+use Rattle.record_values.specs.record_streams.Placing.{placed_record}
 use Rattle.record_values.specs.Values.{valued_record}
 use Rattle.draft_records.specs.Records.{with_normal, written_bytes, fits_room}
-use Rattle.tree_model.specs.declared.reply.Reply.{Reply}
-use Rattle.tree_model.specs.declared.reply.Reply.TheVariants.{RecordFull}
+use Rattle.step_model.specs.tree_model.declared.reply.Reply.{Reply}
+use Rattle.step_model.specs.tree_model.declared.reply.Reply.TheVariants.{RecordFull}
 use Rattle.step_model.specs.Used.{used_after, own_attr, value_attr, placed_attr}
 use Rattle.step_model.specs.Plans.{full_row}
 

@@ -8,8 +8,8 @@ use Rattle.host_base.specs.Answers.{◌>>=◌, ExplainsOrFails}
 use Rattle.host_base.proofs.Known.{both, one}
 use Rattle.disk_model.specs.Content.{Content}
 use Rattle.file_tree.specs.declared.journal.Usn.{Usn}
-use Rattle.state_model.specs.declared.stream.Extents.{Extents}
-use Rattle.state_model.specs.Streams.{byte_at}
+use Rattle.record_rules.specs.state_model.declared.stream.Extents.{Extents}
+use Rattle.record_rules.specs.state_model.Streams.{byte_at}
 use Rattle.journal_model.specs.Journals.{page_entries, pages_before, journal_from, journal_in}
 use Rattle.journal_model.proofs.JournalPages.{journal_next, journal_last}
 use Rattle.volume_state.specs.Journals.{journal_first, journal_entries}

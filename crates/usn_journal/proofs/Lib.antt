@@ -1,3 +1,4 @@
+pub use Rattle.journal_model.proofs as journal_model
 pub mod PagesLeft
 pub mod Shapes
 pub mod WithoutRecords

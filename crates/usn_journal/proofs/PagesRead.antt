@@ -6,8 +6,8 @@ use Rattle.host_base.specs.Answers.{Explains, ExplainsOrFails}
 use Rattle.host_base.proofs.Known.{one}
 use Rattle.disk_model.specs.Content.{Content}
 use Rattle.file_tree.specs.declared.journal.Usn.{Usn}
-use Rattle.state_model.specs.declared.stream.Extents.{Extents}
-use Rattle.state_model.specs.Streams.{byte_at}
+use Rattle.record_rules.specs.state_model.declared.stream.Extents.{Extents}
+use Rattle.record_rules.specs.state_model.Streams.{byte_at}
 use Rattle.journal_model.specs.declared.fault.UsnFault.{UsnFault}
 use Rattle.journal_model.specs.declared.fault.UsnFault.TheVariants.{Cut, Shape, Memory}
 use Rattle.journal_model.specs.UsnRecords.{usn_cause}

@@ -3,8 +3,8 @@ use Rattle.std.proofs.Common.{◌≡◌, ℕ, ◌≤◌, Bool, true, false, refl
 use Rattle.std.specs.Prelude.{◌&&◌, ◌==◌, ◌^◌, nat_le}
 use Rattle.std.specs.List.{list_all}
 use Rattle.std.proofs.lemmas.Bool.Decides.{nat_tests}
-use Rattle.state_model.specs.declared.stream.Extents.{Extents}
-use Rattle.state_model.specs.Files.{is_sparse}
+use Rattle.record_rules.specs.state_model.declared.stream.Extents.{Extents}
+use Rattle.record_rules.specs.state_model.Files.{is_sparse}
 use Rattle.volume_state.specs.Journals.{ends_within, journal_first, has_journal_shape}
 
 last_but_one : (a b c : Bool) → (a && b && c) ≡ true → b ≡ true

@@ -4,10 +4,10 @@ use Rattle.std.specs.Prelude.{IfSome, Option, Result}
 use Rattle.host_base.specs.Answers.{◌>>=◌, Cause, refused, no_memory, failed, never, ExplainsOrFails}
 use Rattle.host_base.proofs.Known.{one}
 use Rattle.disk_model.specs.Content.{Content}
-use Rattle.record_model.specs.declared.values.JournalMax.{JournalMax}
+use Rattle.volume_map.specs.record_model.declared.values.JournalMax.{JournalMax}
 use Rattle.file_tree.specs.declared.journal.Usn.{Usn}
 use Rattle.file_tree.specs.declared.journal.Journal.{Journal}
-use Rattle.state_model.specs.declared.stream.Extents.{Extents}
+use Rattle.record_rules.specs.state_model.declared.stream.Extents.{Extents}
 use Rattle.volume_state.specs.Journals.{journal_entries, journal_owned, journal_with}
 use Rattle.volume_state.specs.Trees.{without_records}
 use Rattle.usn_journal.specs.Judging.{judged, owned_in, bare, journal_in_place}

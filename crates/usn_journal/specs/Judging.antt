@@ -3,10 +3,10 @@ use Rattle.std.specs.Prelude.{ℕ, Bool, List, Option, Some, Result, Ok, Err}
 use Rattle.std.specs.Option.{option_map}
 use Rattle.host_base.specs.Answers.{◌>>=◌}
 use Rattle.disk_model.specs.Content.{Content}
-use Rattle.record_model.specs.declared.values.JournalMax.{JournalMax}
+use Rattle.volume_map.specs.record_model.declared.values.JournalMax.{JournalMax}
 use Rattle.file_tree.specs.declared.journal.Journal.{Journal}
-use Rattle.state_model.specs.declared.stream.Extents.{Extents}
-use Rattle.volume_model.specs.Volumes.{Volume}
+use Rattle.record_rules.specs.state_model.declared.stream.Extents.{Extents}
+use Rattle.volume_map.specs.volume_model.Volumes.{Volume}
 use Rattle.volume_state.specs.Journals.{journal_entries, journal_owned, journal_with, journal_of}
 use Rattle.volume_state.specs.Trees.{without_records}
 

@@ -2,13 +2,13 @@
 -- attribute list, 3 one of its two streams is missing or out of shape.
 use Rattle.std.specs.Prelude.{ℕ, not, List, Option, Some, None, Result, Ok, Err}
 use Rattle.host_base.specs.Answers.{◌>>=◌, needs, Cause, refused, no_memory}
-use Rattle.record_model.specs.Records.{Record}
-use Rattle.record_model.specs.Constants.{attribute_list, data_type}
-use Rattle.state_model.specs.declared.stream.Extents.{Extents}
-use Rattle.state_model.specs.declared.stream.Stream.{Stream}
-use Rattle.state_model.specs.Files.{has_type}
-use Rattle.state_model.specs.Streams.{stream_of}
-use Rattle.volume_model.specs.Volumes.{Volume}
+use Rattle.volume_map.specs.record_model.Records.{Record}
+use Rattle.volume_map.specs.record_model.Constants.{attribute_list, data_type}
+use Rattle.record_rules.specs.state_model.declared.stream.Extents.{Extents}
+use Rattle.record_rules.specs.state_model.declared.stream.Stream.{Stream}
+use Rattle.record_rules.specs.state_model.Files.{has_type}
+use Rattle.record_rules.specs.state_model.Streams.{stream_of}
+use Rattle.volume_map.specs.volume_model.Volumes.{Volume}
 use Rattle.volume_state.specs.Journals.{journal_file, limits_in, entries_in, entries_flags, limits_name, entries_name}
 use Rattle.usn_journal.specs.declared.place.PlaceFault.{PlaceFault}
 use Rattle.usn_journal.specs.declared.place.PlaceFault.TheVariants as faults

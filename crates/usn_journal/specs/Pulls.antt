@@ -3,7 +3,7 @@ use Rattle.std.specs.Prelude.{ℕ, ◌+◌, nat_le, List, [], ◌∷◌, filter,
 use Rattle.host_base.specs.Answers.{◌>>=◌, needs}
 use Rattle.disk_model.specs.Content.{Content}
 use Rattle.file_tree.specs.declared.journal.Usn.{Usn}
-use Rattle.state_model.specs.declared.stream.Extents.{Extents}
+use Rattle.record_rules.specs.state_model.declared.stream.Extents.{Extents}
 use Rattle.journal_model.specs.UsnRecords.{usn_size}
 use Rattle.volume_state.specs.Journals.{journal_first, journal_entries}
 use Rattle.usn_journal.specs.declared.pulling.Pulled.{Pulled}

@@ -6,12 +6,10 @@ ghost use Rattle.file_tree.specs.Walks.{child_in};
 ghost use Rattle.volume_map.specs.Maps.{volume_in};
 ghost use Rattle.volume_state.specs.Journals.{extend_file, journal_name, file_or_none};
 
-use file_record::FileRec;
 use file_tree::{Link, chosen};
 use record_rules::file_at;
 use std::alloc::{AllocError, Global};
-use upcase_order::Upcase;
-use volume_map::VolumeMap;
+use volume_map::{FileRec, Upcase, VolumeMap};
 
 // The number of `$Extend`.
 const EXTEND_FILE: u64 = 11;

@@ -2,7 +2,7 @@
 ghost use Rattle.std.specs.Prelude.{◌≡◌, ◌+◌, ◌-◌, ◌*◌, ◌/◌, ◌^◌, ◌<◌, ◌≤◌, min, length, Ok, IfOk, IfSome};
 ghost use Rattle.host_base.specs.Answers.{GivesOrFails};
 ghost use Rattle.journal_model.specs.Journals.{page_entries, journal_from};
-ghost use Rattle.state_model.specs.Streams.{byte_at};
+ghost use Rattle.record_rules.specs.state_model.Streams.{byte_at};
 ghost use Rattle.block_view.specs.Views.{AsksView};
 ghost use Rattle.volume_state.specs.Journals.{journal_first, journal_entries, journal_owned};
 ghost use Rattle.usn_journal.specs.JournalErrors.{journal_cause};
@@ -11,10 +11,9 @@ ghost use Rattle.usn_journal.specs.Judging.{judged, owned_in};
 use crate::journal_fault::JournalFault;
 use block_view::View;
 use disk_model::Body;
-use state_model::{ClusterSize, Extents};
 use std::alloc::{AllocError, Global};
-use stream_map::fill;
 use usn_record::{check_page, ends_in_record};
+use volume_map::{ClusterSize, Extents, fill};
 
 // The bytes of a page of the journal.
 const PAGE: u64 = 4096;

@@ -22,5 +22,6 @@ pub use journal_fault::JournalFault;
 pub use place::{PlaceFault, journal_place};
 pub use pull_fault::{PageFault, PullFault, PullRefusal};
 pub use pulling::{Pulled, pull_inside, read_from};
+pub use record_rules::{all_links, first_misnamed, first_misplaced, first_unrooted};
 pub use shape::first_byte;
 pub use whole::volume_journal;

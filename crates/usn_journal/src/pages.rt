@@ -3,7 +3,7 @@ ghost use Rattle.std.specs.Prelude.{◌≡◌, ◌+◌, ◌-◌, ◌*◌, ◌/�
 ghost use Rattle.host_base.specs.Answers.{GivesOrFails};
 ghost use Rattle.file_tree.specs.declared.journal.Usn.{Usn as UsnOf};
 ghost use Rattle.journal_model.specs.Journals.{page_entries};
-ghost use Rattle.state_model.specs.Streams.{byte_at};
+ghost use Rattle.record_rules.specs.state_model.Streams.{byte_at};
 ghost use Rattle.block_view.specs.Views.{AsksView};
 ghost use Rattle.volume_state.specs.Journals.{journal_first, journal_entries};
 ghost use Rattle.usn_journal.specs.PullErrors.{whole_cause, page_cause};
@@ -13,10 +13,9 @@ use crate::pull_fault::PageFault;
 use block_view::View;
 use disk_model::Body;
 use file_tree::{Usn, UsnList};
-use state_model::{ClusterSize, Extents};
 use std::alloc::{AllocError, Global};
-use stream_map::fill;
 use usn_record::read_page;
+use volume_map::{ClusterSize, Extents, fill};
 
 // The bytes of a page of the journal.
 const PAGE: u64 = 4096;

@@ -1,8 +1,8 @@
 //! Where the journal's records lie.
 ghost use Rattle.std.specs.Prelude.{◌≡◌, ◌≤◌, IfOk, Some, IfSome, length};
 ghost use Rattle.host_base.specs.Answers.{Gives};
-ghost use Rattle.state_model.specs.Loads.{table_in};
-ghost use Rattle.state_model.specs.Trees.{all_links};
+ghost use Rattle.record_rules.specs.state_model.Loads.{table_in};
+ghost use Rattle.record_rules.specs.state_model.Trees.{all_links};
 ghost use Rattle.volume_map.specs.Maps.{volume_in};
 ghost use Rattle.volume_state.specs.Journals.{journal_first, entries_in};
 ghost use Rattle.usn_journal.specs.Places.{in_shape, place_of_streams, place_of_file, journal_place, place_cause};
@@ -10,17 +10,15 @@ ghost use Rattle.usn_journal.specs.Places.{in_shape, place_of_streams, place_of_
 use crate::finding::{file_or_none, journal_number};
 use crate::shape::{has_shape, limits_of};
 use crate::whole::{ENTRIES_NAME, LIMITS_NAME};
-use file_record::FileRec;
 use file_tree::Link;
 use host_base::Memory;
-use record_model::{ATTRIBUTE_LIST, DATA};
 use record_rules::has_type;
-use state_model::{ClusterSize, Extents, Stream};
 use std::alloc::{AllocError, Global};
-use stream_map::stream_of;
 use thiserror::Error;
-use upcase_order::Upcase;
-use volume_map::{VolumeMap, stream_flags};
+use volume_map::{
+    ATTRIBUTE_LIST, ClusterSize, DATA, Extents, FileRec, Stream, Upcase, VolumeMap, stream_flags,
+    stream_of,
+};
 
 // No file is the journal's.
 const NO_FILE: u32 = 1;

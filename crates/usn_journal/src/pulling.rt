@@ -13,8 +13,8 @@ use crate::shape::first_byte;
 use block_view::View;
 use disk_model::Body;
 use file_tree::{Usn, UsnList};
-use state_model::{ClusterSize, Extents};
 use std::alloc::{AllocError, Global};
+use volume_map::{ClusterSize, Extents};
 
 // The bytes of a page of the journal.
 const PAGE: usize = 4096;

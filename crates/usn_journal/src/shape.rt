@@ -2,14 +2,11 @@
 ghost use Rattle.std.specs.Prelude.{◌≡◌, ◌≤◌, not, find, Ok, Err, MatchOption, IfSome};
 ghost use Rattle.std.specs.List.{list_all};
 ghost use Rattle.std.specs.Option.{option_copied};
-ghost use Rattle.volume_model.specs.Sizes.{is_hole};
+ghost use Rattle.volume_map.specs.volume_model.Sizes.{is_hole};
 ghost use Rattle.volume_state.specs.Journals.{ends_within, run_place, journal_first, has_journal_shape, limits_in, entries_in};
 
-use record_model::{JournalMax, Run};
 use record_rules::is_sparse;
-use state_model::{ClusterSize, Extents, Stream};
-use std_values::FixedValue;
-use stream_map::is_hole;
+use volume_map::{ClusterSize, Extents, FixedValue, JournalMax, Run, Stream, is_hole};
 
 // The bytes of a sector.
 const SECTOR: u128 = 512;

@@ -2,8 +2,8 @@
 ghost use Rattle.std.specs.Prelude.{◌≡◌, ◌≤◌, ℕ, [], length, Some, IfSome};
 ghost use Rattle.host_base.specs.Answers.{GivesOrFails};
 ghost use Rattle.disk_model.specs.Content.{Content};
-ghost use Rattle.state_model.specs.Loads.{table_in};
-ghost use Rattle.state_model.specs.Trees.{all_links};
+ghost use Rattle.record_rules.specs.state_model.Loads.{table_in};
+ghost use Rattle.record_rules.specs.state_model.Trees.{all_links};
 ghost use Rattle.volume_map.specs.Maps.{volume_in};
 ghost use Rattle.block_view.specs.Views.{AsksView};
 ghost use Rattle.volume_state.specs.Journals.{journal_first, journal_owned, journal_with, journal_of_streams, journal_of_file};
@@ -17,14 +17,12 @@ use crate::judging::check_entries;
 use crate::shape::{entries_of, first_byte, limits_of};
 use block_view::View;
 use disk_model::Body;
-use file_record::FileRec;
 use file_tree::{Journal, Link, UsnList};
-use record_model::{DATA, JournalMax};
-use state_model::{ClusterSize, Extents, Stream};
 use std::alloc::Global;
-use stream_map::stream_of;
-use upcase_order::Upcase;
-use volume_map::{VolumeMap, stream_flags};
+use volume_map::{
+    ClusterSize, DATA, Extents, FileRec, JournalMax, Stream, Upcase, VolumeMap, stream_flags,
+    stream_of,
+};
 
 // `$Max`
 pub const LIMITS_NAME: [u16; 4] = [0x24, 0x4d, 0x61, 0x78];

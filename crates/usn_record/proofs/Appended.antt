@@ -4,8 +4,8 @@ use Rattle.std.proofs.lemmas.List.{append_assoc, append-nil, take_more}
 use Rattle.std.proofs.lemmas.Grind.{flat_map-append}
 use Rattle.disk_model.specs.Numbers.{spell}
 use Rattle.disk_model.specs.Bytes.{zeros, up8}
-use Rattle.record_model.specs.Attributes.{unit_bytes, filled}
-use Rattle.record_model.proofs.UnitBytes.{length-unit_bytes}
+use Rattle.journal_model.specs.record_model.Attributes.{unit_bytes, filled}
+use Rattle.journal_model.proofs.record_model.UnitBytes.{length-unit_bytes}
 use Rattle.file_tree.specs.declared.journal.Usn.{Usn}
 use Rattle.journal_model.specs.UsnRecords.{head_spelling, usn_spelling}
 

@@ -10,7 +10,7 @@ use Rattle.utf16_name.specs.declared.name.NameFault.{NameFault}
 use Rattle.utf16_name.specs.declared.name.NameFault.TheVariants.{Length as too_long}
 use Rattle.utf16_name.specs.Names.{is_bad_unit, fault_of, name_fault, ok_unless, name_of}
 use Rattle.disk_model.specs.Numbers.{field}
-use Rattle.record_model.specs.Attributes.{units_at}
+use Rattle.journal_model.specs.record_model.Attributes.{units_at}
 use Rattle.journal_model.specs.UsnRecords.{name_units, has_layout, is_usn}
 use Rattle.journal_model.proofs.UsnRead.{layout_parts, sound_parts, length-name_units}
 

@@ -9,8 +9,7 @@ use crate::judging::{checked_length, is_known, name_bytes};
 use disk_model::{u32_at, u64_at};
 use file_tree::Usn;
 use host_base::FileRef;
-use journal_model::UsnFault;
-use record_model::units_at;
+use journal_model::{UsnFault, units_at};
 use std::alloc::Global;
 use utf16_name::Name;
 

@@ -1,7 +1,7 @@
 ghost use Rattle.std.specs.Prelude.{◌≡◌, ◌<◌, ◌^◌, ◌++◌, OnOk, OnErr, IfOk};
 ghost use Rattle.disk_model.specs.Numbers.{spell};
 ghost use Rattle.disk_model.specs.Bytes.{zeros};
-ghost use Rattle.record_model.specs.Attributes.{unit_bytes};
+ghost use Rattle.journal_model.specs.record_model.Attributes.{unit_bytes};
 ghost use Rattle.journal_model.specs.UsnRecords.{head_spelling, usn_spelling};
 
 use crate::front::{HEAD, KNOWN_VERSION, up8};

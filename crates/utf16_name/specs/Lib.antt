@@ -1,3 +1,4 @@
+pub use Rattle.host_base.specs as host_base
 pub mod Elements
 pub mod Lawful
 pub mod Names

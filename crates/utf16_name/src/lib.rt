@@ -13,6 +13,7 @@ mod reading;
 mod text;
 mod units;
 
+pub use host_base::{Bytes, FileRef, Memory};
 pub use name::{Name, NameFault, check};
 pub use reading::text_units;
 pub use units::Units;

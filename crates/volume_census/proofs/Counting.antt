@@ -15,15 +15,15 @@ use Rattle.state_model.specs.Files.{is_directory_record, record_links, file_link
 use Rattle.state_model.specs.Trees.{is_system}
 use Rattle.volume_model.specs.Volumes.{Volume, files_by_number, count_of, file_in, bytes_or, cluster_bits}
 use Rattle.volume_model.specs.Nodes.{is_unread, is_unchanged, kind_in, node_with, node_by, spare_numbers, free_clusters}
-use Rattle.volume_state.specs.Trees.{tree_with, tree_of}
-use Rattle.volume_map.specs.declared.map.VolumeMap.{VolumeMap}
-use Rattle.volume_map.specs.Heads.{spares_of}
-use Rattle.volume_map.specs.Maps.{IsMapOf, volume_in}
-use Rattle.volume_map.proofs.Heads.{spares}
+use Rattle.volume_lookup.specs.volume_state.Trees.{tree_with, tree_of}
+use Rattle.volume_lookup.specs.volume_map.declared.map.VolumeMap.{VolumeMap}
+use Rattle.volume_lookup.specs.volume_map.Heads.{spares_of}
+use Rattle.volume_lookup.specs.volume_map.Maps.{IsMapOf, volume_in}
+use Rattle.volume_lookup.proofs.volume_map.Heads.{spares}
 use Rattle.tree_model.specs.Refusals.{is_in_system, is_system_kind, is_system_node}
 use Rattle.tree_model.specs.Effects.{least_ref}
-use Rattle.lookup_laws.specs.Files.{is_own_file}
-use Rattle.lookup_laws.proofs.Climbing.{system_by_nodes}
+use Rattle.volume_lookup.specs.lookup_laws.Files.{is_own_file}
+use Rattle.volume_lookup.proofs.lookup_laws.Climbing.{system_by_nodes}
 use Rattle.volume_lookup.specs.Known.{known_tree}
 use Rattle.volume_lookup.proofs.Asking.{IsAsked, of_tree, anything, directory_file}
 

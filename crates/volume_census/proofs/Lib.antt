@@ -1,2 +1,3 @@
+pub use Rattle.volume_lookup.proofs as volume_lookup
 pub mod Sparing
 pub mod Counting

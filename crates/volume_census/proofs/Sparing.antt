@@ -6,8 +6,8 @@ use Rattle.std.proofs.lemmas.Bool.{cases_lt, le-ltb}
 use Rattle.host_base.specs.declared.file_ref.FileRef.{FileRef}
 use Rattle.bit_set.specs.Bits.{bit}
 use Rattle.tree_model.specs.Effects.{lesser_ref, least_ref}
-use Rattle.volume_map.specs.declared.head.Head.{Head}
-use Rattle.volume_map.specs.Heads.{head_in, spare_of, spares_of}
+use Rattle.volume_lookup.specs.volume_map.declared.head.Head.{Head}
+use Rattle.volume_lookup.specs.volume_map.Heads.{head_in, spare_of, spares_of}
 use Rattle.volume_census.specs.Lowest.{IsLowestSpare}
 
 -- ---- the least of what numbers give

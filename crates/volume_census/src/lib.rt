@@ -16,4 +16,4 @@ pub use change_lookup::{Census, Lookup, LookupFault};
 pub use lent::LentView;
 pub use upcase_order::Upcase;
 pub use volume::VolumeCensus;
-pub use volume_tree::{NamedVolume, Names};
+pub use volume_lookup::{NamedVolume, Names};

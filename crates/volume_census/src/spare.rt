@@ -1,14 +1,14 @@
 //! The records of a loaded volume, and the least spare number.
 ghost use Rattle.std.specs.Prelude.{◌≡◌, length};
 ghost use Rattle.tree_model.specs.Effects.{least_ref};
-ghost use Rattle.volume_map.specs.Heads.{spares_of};
+ghost use Rattle.volume_lookup.specs.volume_map.Heads.{spares_of};
 ghost use Rattle.volume_census.specs.Lowest.{IsLowestSpare};
 
 use bit_set::BitSet;
-use file_record::FileRec;
 use file_tree::FIRST_USER_RECORD;
 use host_base::FileRef;
-use volume_map::Head;
+use record_rules::FileRec;
+use volume_lookup::Head;
 
 /// How many records there are.
 pub fn records(files: &[Option<FileRec>]) -> u64

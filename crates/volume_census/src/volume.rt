@@ -1,9 +1,9 @@
 ghost use Rattle.std.specs.Prelude.{◌≡◌, None, Some, IfSome};
 ghost use Rattle.std.specs.Option.{ForSome};
-ghost use Rattle.volume_map.specs.Maps.{IsMapOf, volume_in};
+ghost use Rattle.volume_lookup.specs.volume_map.Maps.{IsMapOf, volume_in};
 ghost use Rattle.volume_model.specs.Volumes.{upper_of};
-ghost use Rattle.volume_state.specs.Rules.{first_broken};
-ghost use Rattle.volume_state.specs.Trees.{tree_of};
+ghost use Rattle.volume_lookup.specs.volume_state.Rules.{first_broken};
+ghost use Rattle.volume_lookup.specs.volume_state.Trees.{tree_of};
 ghost use Rattle.volume_lookup.specs.Known.{known_tree};
 
 use crate::lent::LentView;
@@ -15,8 +15,7 @@ use std::alloc::Global;
 use tree_lookup::{Link, Lookup, LookupFault, Name, NameList, Node};
 use tree_model::FileRef;
 use upcase_order::Upcase;
-use volume_lookup::VolumeTree;
-use volume_tree::NamedVolume;
+use volume_lookup::{NamedVolume, VolumeTree};
 
 /// A loaded volume on a view of its content, and its table of upper-case units, which is asked for
 /// what a change needs. Its tree is known where the content is, the table is that of the volume,

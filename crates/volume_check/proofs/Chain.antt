@@ -7,8 +7,8 @@ use Rattle.host_base.proofs.Known.{both, one}
 use Rattle.disk_model.specs.Content.{Content}
 use Rattle.file_tree.specs.declared.journal.Journal.{Journal}
 use Rattle.file_tree.specs.declared.tree.Tree.{Tree}
-use Rattle.state_model.specs.declared.broken.Broken.{Broken}
-use Rattle.state_model.specs.Rules.{broken_or}
+use Rattle.volume_tree.specs.state_model.declared.broken.Broken.{Broken}
+use Rattle.volume_tree.specs.state_model.Rules.{broken_or}
 use Rattle.volume_model.specs.Volumes.{Volume, upper_of}
 use Rattle.volume_model.specs.Nodes.{bare_nodes}
 use Rattle.volume_state.specs.Journals.{journal_of, fault_of, some_journal}
@@ -16,8 +16,8 @@ use Rattle.volume_state.specs.Rules.{broken_1, broken_2, broken_3, broken_4, bro
 use Rattle.volume_state.specs.Trees.{volume_journal, tree_with, without_records, report_of, reported, checked}
 use Rattle.usn_journal.specs.Judging.{bare, bare_journal}
 use Rattle.volume_check.specs.declared.fault.CheckFault.{CheckFault}
-use Rattle.volume_map.specs.declared.map.VolumeMap.{VolumeMap}
-use Rattle.volume_map.specs.Maps.{volume_in, IsMapOf}
+use Rattle.volume_tree.specs.volume_map.declared.map.VolumeMap.{VolumeMap}
+use Rattle.volume_tree.specs.volume_map.Maps.{volume_in, IsMapOf}
 use Rattle.volume_check.specs.Errors.{check_cause}
 use Rattle.volume_check.specs.Parts.{AreParts}
 use Rattle.volume_check.specs.Steps.{from_1, from_2, from_3, from_4, from_5, from_6, from_7, from_8, tree_or, ninth}

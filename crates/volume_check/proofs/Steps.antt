@@ -4,15 +4,15 @@ use Rattle.std.specs.Prelude.{IfSome}
 use Rattle.bit_set.proofs.Views.{length-bits_of_bytes}
 use Rattle.host_base.proofs.Known.{one}
 use Rattle.disk_model.specs.Content.{Content}
-use Rattle.record_model.specs.declared.runs.Run.{Run}
-use Rattle.state_model.specs.declared.broken.Broken.{Broken}
-use Rattle.state_model.specs.Rules.{broken_or, first_failing}
+use Rattle.volume_tree.specs.record_model.declared.runs.Run.{Run}
+use Rattle.volume_tree.specs.state_model.declared.broken.Broken.{Broken}
+use Rattle.volume_tree.specs.state_model.Rules.{broken_or, first_failing}
 use Rattle.volume_model.specs.Volumes.{Volume, cluster_bits, cluster_bitmap, bytes_or}
 use Rattle.volume_model.specs.Owners.{volume_runs, keeps_cluster_bit}
 use Rattle.volume_model.specs.Sizes.{keeps_place, keeps_sizes}
 use Rattle.volume_state.specs.Rules.{broken_4, broken_6, file_count}
-use Rattle.volume_map.specs.declared.map.VolumeMap.{VolumeMap}
-use Rattle.volume_map.specs.Maps.{volume_in, IsMapOf}
+use Rattle.volume_tree.specs.volume_map.declared.map.VolumeMap.{VolumeMap}
+use Rattle.volume_tree.specs.volume_map.Maps.{volume_in, IsMapOf}
 use Rattle.volume_check.specs.Steps.{from_4, from_5}
 
 -- a number was found: the rule is broken there

@@ -3,7 +3,7 @@ use Rattle.std.specs.Prelude.{⊤, Result, Ok, Err}
 use Rattle.host_base.specs.Answers.{Cause, refused, no_memory, failed}
 use Rattle.block_view.specs.declared.fault.ViewFault.{ViewFault}
 use Rattle.block_view.specs.declared.fault.ViewFault.TheVariants as views
-use Rattle.state_model.specs.declared.broken.Broken.{Broken}
+use Rattle.volume_tree.specs.state_model.declared.broken.Broken.{Broken}
 use Rattle.directory_index.specs.declared.fault.IndexFault.{IndexFault}
 use Rattle.directory_index.specs.declared.fault.IndexFault.TheVariants as indexes
 use Rattle.stream_rules.specs.declared.fault.SizesFault.{SizesFault}

@@ -3,8 +3,8 @@ use Rattle.std.specs.Prelude.{ℕ, Option, None, Result, Ok, Err}
 use Rattle.disk_model.specs.Content.{Content}
 use Rattle.file_tree.specs.declared.journal.Journal.{Journal}
 use Rattle.file_tree.specs.declared.tree.Tree.{Tree}
-use Rattle.state_model.specs.declared.broken.Broken.{Broken}
-use Rattle.state_model.specs.Rules.{broken_or}
+use Rattle.volume_tree.specs.state_model.declared.broken.Broken.{Broken}
+use Rattle.volume_tree.specs.state_model.Rules.{broken_or}
 use Rattle.volume_model.specs.Volumes.{Volume, upper_of}
 use Rattle.volume_model.specs.Nodes.{bare_nodes}
 use Rattle.volume_state.specs.Rules.{broken_1, broken_2, broken_3, broken_4, broken_5, broken_6, broken_7, broken_8}

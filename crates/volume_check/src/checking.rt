@@ -1,7 +1,7 @@
 //! The check.
 ghost use Rattle.std.specs.Prelude.{◌≡◌, IfSome};
 ghost use Rattle.host_base.specs.Answers.{GivesOrFails};
-ghost use Rattle.volume_map.specs.Maps.{volume_in, IsMapOf};
+ghost use Rattle.volume_tree.specs.volume_map.Maps.{volume_in, IsMapOf};
 ghost use Rattle.block_view.specs.Views.{AsksView};
 ghost use Rattle.volume_state.specs.Trees.{checked};
 ghost use Rattle.volume_check.specs.Errors.{check_cause};
@@ -15,9 +15,8 @@ use disk_model::Body;
 use file_tree::Tree;
 use std::alloc::Global;
 use system_files::upper_table;
-use upcase_order::Upcase;
-use volume_map::VolumeMap;
-use volume_tree::{NamedVolume, Names};
+use volume_model::Upcase;
+use volume_tree::{NamedVolume, Names, VolumeMap};
 
 // The same, by the volume's table of upper-case units.
 fn check_ordered<V: View>(

@@ -1,11 +1,11 @@
 use block_view::ViewFault;
 use directory_index::IndexFault;
 use host_base::Memory;
-use state_model::Broken;
 use std::alloc::AllocError;
 use stream_rules::SizesFault;
 use thiserror::Error;
 use usn_journal::JournalFault;
+use volume_tree::Broken;
 
 /// Why a check found no tree.
 #[derive(Clone, Copy, Debug, PartialEq, Eq, Error)]

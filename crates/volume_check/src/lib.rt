@@ -14,4 +14,7 @@ mod rules;
 
 pub use checking::check;
 pub use fault::CheckFault;
-pub use state_model::Broken;
+pub use system_files::{upper_table, volume_info};
+pub use usn_journal::{PageFault, PlaceFault, first_byte, journal_place, pull_inside};
+pub use volume_model::Upcase;
+pub use volume_tree::Broken;

@@ -2,10 +2,10 @@
 ghost use Rattle.std.specs.Prelude.{◌≡◌, IfOk, IfSome, length};
 ghost use Rattle.host_base.specs.Answers.{GivesOrFails};
 ghost use Rattle.disk_model.specs.Content.{Content as the_content};
-ghost use Rattle.state_model.specs.Loads.{table_in};
-ghost use Rattle.state_model.specs.Trees.{all_links};
+ghost use Rattle.volume_tree.specs.state_model.Loads.{table_in};
+ghost use Rattle.volume_tree.specs.state_model.Trees.{all_links};
 ghost use Rattle.volume_model.specs.Nodes.{bare_nodes};
-ghost use Rattle.volume_map.specs.Maps.{volume_in, IsMapOf};
+ghost use Rattle.volume_tree.specs.volume_map.Maps.{volume_in, IsMapOf};
 ghost use Rattle.block_view.specs.Views.{AsksView};
 ghost use Rattle.volume_state.specs.Trees.{tree_with};
 ghost use Rattle.volume_check.specs.Errors.{check_cause};
@@ -17,10 +17,9 @@ use block_view::View;
 use disk_model::Body;
 use file_tree::{LinkList, Tree};
 use host_base::Memory;
-use record_rules::all_links;
 use std::alloc::Global;
-use upcase_order::Upcase;
-use usn_journal::volume_journal;
+use usn_journal::{all_links, volume_journal};
+use volume_model::Upcase;
 use volume_tree::{NamedVolume, tree_with};
 
 // The tree with these links and the volume's own journal.

@@ -2,7 +2,7 @@
 ghost use Rattle.std.specs.Prelude.{◌≡◌, ◌+◌, ◌*◌, ◌<◌, IfOk, IfSome, IsSome};
 ghost use Rattle.disk_model.specs.Content.{Content as the_content};
 ghost use Rattle.volume_model.specs.Owners.{volume_runs};
-ghost use Rattle.volume_map.specs.Maps.{volume_in, IsMapOf};
+ghost use Rattle.volume_tree.specs.volume_map.Maps.{volume_in, IsMapOf};
 ghost use Rattle.block_view.specs.Views.{AsksView};
 ghost use Rattle.volume_check.specs.Errors.{check_cause, NeverBroken};
 ghost use Rattle.volume_check.specs.Parts.{AreParts};
@@ -14,14 +14,11 @@ use crate::fault::CheckFault;
 use block_view::View;
 use disk_model::{BlockKind, Body};
 use host_base::Memory;
-use record_rules::{first_misnamed, first_misplaced, first_unrooted};
-use state_model::Broken;
 use std::alloc::Global;
-use stream_map::block_at;
-use stream_rules::{Run, volume_runs};
-use upcase_order::Upcase;
-use volume_map::VolumeMap;
-use volume_tree::NamedVolume;
+use stream_rules::{Run, block_at, volume_runs};
+use usn_journal::{first_misnamed, first_misplaced, first_unrooted};
+use volume_model::Upcase;
+use volume_tree::{Broken, NamedVolume, VolumeMap};
 
 // Rule 8: the way up of each directory.
 #[tactic(auto, unfolding(crate::specs::Steps::from_8, volume_state::specs::Rules::broken_8))]
@@ -39,7 +36,7 @@ fn from_8(volume: &NamedVolume) -> Option<Broken>
 fn from_7(volume: &NamedVolume) -> Option<Broken>
     ensures { (c : the_content) → IsMapOf c volume.now.map.now → result ≡ from_7 c (volume_in volume.now.map.now) }
 {
-    match volume_map::first_unmarked(&volume.map.heads, &volume.map.record_bits) {
+    match volume_tree::first_unmarked(&volume.map.heads, &volume.map.record_bits) {
         Some(number) => Some(Broken { rule: 7, number }),
         None => from_8(volume),
     }

@@ -9,9 +9,9 @@ use Rattle.tree_model.specs.declared.reply.Reply.{Reply}
 use Rattle.tree_model.specs.Steps.{is_given_up, Replies, IsStep}
 use Rattle.tree_lookup.specs.Answered.{CountsReply}
 use Rattle.device_view.specs.Devices.{BorrowedDevice, failures}
-use Rattle.volume_mount.proofs.Replying.{reply_failed, reply_counts}
-use Rattle.txn_core.specs.Seen.{Seen}
-use Rattle.txn_core.specs.Views.{BorrowedStore, borrowed_store}
+use Rattle.working_volume.proofs.volume_mount.Replying.{reply_failed, reply_counts}
+use Rattle.working_volume.specs.txn_core.Seen.{Seen}
+use Rattle.working_volume.specs.txn_core.Views.{BorrowedStore, borrowed_store}
 use Rattle.volume_core.specs.Looks.{RepliesOf, CountsLook}
 
 of_device : BorrowedStore → BorrowedDevice

@@ -12,34 +12,34 @@ use Rattle.sector_device.specs.Moments.{Changes}
 use Rattle.file_tree.specs.declared.tree.Tree.{Tree}
 use Rattle.volume_model.specs.Owners.{uses}
 use Rattle.stream_laws.specs.Sharing.{stream_at, runs_in}
-use Rattle.plan_owners.specs.Agreeing.{log_key}
-use Rattle.plan_owners.specs.Kinds.{cluster_of}
+use Rattle.working_volume.specs.plan_owners.Agreeing.{log_key}
+use Rattle.working_volume.specs.plan_owners.Kinds.{cluster_of}
 use Rattle.volume_state.specs.Trees.{tree_of}
-use Rattle.volume_mount.specs.Mounts.{MountedVolume}
-use Rattle.map_change.specs.Parts.{MapParts, map_of}
+use Rattle.working_volume.specs.volume_mount.Mounts.{MountedVolume}
+use Rattle.working_volume.specs.map_change.Parts.{MapParts, map_of}
 use Rattle.state_model.specs.declared.geometry.MapRefusal.{MapRefusal}
-use Rattle.writes_keep.specs.Writes.{IsOffLog}
-use Rattle.file_puts.specs.declared.streams.VolumeStreams.{VolumeStreams}
-use Rattle.plans_lead.specs.Leading.{LeadsAsAsked}
+use Rattle.working_volume.specs.writes_keep.Writes.{IsOffLog}
+use Rattle.working_volume.specs.file_puts.declared.streams.VolumeStreams.{VolumeStreams}
+use Rattle.working_volume.specs.plans_lead.Leading.{LeadsAsAsked}
 use Rattle.tree_model.specs.declared.script.Op.{Op}
 use Rattle.tree_model.specs.declared.reply.Reply.{Reply}
 use Rattle.flush_policy.specs.declared.facts.StoreStep.{StoreStep}
-use Rattle.found_stays.specs.Found.{StaysOver}
-use Rattle.found_stays.specs.Laws.{StepsStay}
+use Rattle.crash_trees.specs.found_stays.Found.{StaysOver}
+use Rattle.crash_trees.specs.found_stays.Laws.{StepsStay}
 use Rattle.store_claims.specs.Windows.{StoreWindow}
 use Rattle.txn_model.specs.Values.{StoreFacts}
 use Rattle.txn_state.specs.States.{StateOf, facts_of}
-use Rattle.txn_core.specs.Views.{present_on, present_content}
-use Rattle.state_store.specs.declared.fault.PutFault.{PutFault}
-use Rattle.state_store.specs.Rooms.{MayNumber}
-use Rattle.state_store.specs.Preparing.{KeepsSeen}
-use Rattle.state_store.specs.Puts.{PutsMap, PutsOver}
-use Rattle.state_store.specs.Volumes.{geometry_of}
-use Rattle.state_store.proofs.Following.{has_map}
-use Rattle.state_store.proofs.Lists.{same_after}
-use Rattle.txn_close.specs.declared.fault.CloseFault.{CloseFault}
-use Rattle.txn_close.specs.Ends.{Closes}
-use Rattle.resting_states.specs.Turns.{IsTurned}
+use Rattle.working_volume.specs.txn_core.Views.{present_on, present_content}
+use Rattle.working_volume.specs.state_store.declared.fault.PutFault.{PutFault}
+use Rattle.working_volume.specs.state_store.Rooms.{MayNumber}
+use Rattle.working_volume.specs.state_store.Preparing.{KeepsSeen}
+use Rattle.working_volume.specs.state_store.Puts.{PutsMap, PutsOver}
+use Rattle.working_volume.specs.state_store.Volumes.{geometry_of}
+use Rattle.working_volume.proofs.state_store.Following.{has_map}
+use Rattle.working_volume.proofs.state_store.Lists.{same_after}
+use Rattle.crash_trees.specs.txn_close.declared.fault.CloseFault.{CloseFault}
+use Rattle.crash_trees.specs.txn_close.Ends.{Closes}
+use Rattle.crash_trees.specs.resting_states.Turns.{IsTurned}
 use Rattle.crash_trees.specs.Trees.{HoldsTrees}
 use Rattle.crash_trees.specs.Starts.{TreesStart}
 use Rattle.crash_trees.specs.Puts.{trees_after, TreesPut}

@@ -1,3 +1,5 @@
+pub use Rattle.crash_trees.proofs.txn_close
+pub use Rattle.working_volume.proofs.txn_core
 pub mod Records
 pub mod Staying
 pub mod Counting

@@ -23,10 +23,10 @@ use Rattle.stream_laws.proofs.Framing.{same_records}
 use Rattle.stream_laws.proofs.Recording.{record_read}
 use Rattle.stream_laws.proofs.Rewriting.{parts_of_files}
 use Rattle.stream_laws.proofs.Tabling.{table_extents_is, table_runs}
-use Rattle.plan_owners.specs.States.{Stands}
-use Rattle.plan_owners.specs.Agreeing.{IsJudged, log_key}
-use Rattle.plan_owners.proofs.Standing.{loaded_files, begins}
-use Rattle.state_blocks.specs.Needing.{AgreeOnNeeded}
+use Rattle.working_volume.specs.plan_owners.States.{Stands}
+use Rattle.working_volume.specs.plan_owners.Agreeing.{IsJudged, log_key}
+use Rattle.working_volume.proofs.plan_owners.Standing.{loaded_files, begins}
+use Rattle.working_volume.specs.state_blocks.Needing.{AgreeOnNeeded}
 
 body_with : List ℕ → Bool → Body
 body_with bytes torn = record { bytes = bytes; torn = torn }

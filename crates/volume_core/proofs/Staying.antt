@@ -5,13 +5,13 @@ use Rattle.file_tree.specs.declared.tree.Tree.{Tree}
 use Rattle.bit_set.specs.Bits.{bit}
 use Rattle.log_page.specs.declared.places.LogPlace.{LogPlace}
 use Rattle.log_reading.specs.Rings.{IsRingPlace}
-use Rattle.map_change.specs.Parts.{MapParts}
-use Rattle.spares_at_mount.specs.Mounts.{LiesInLog}
-use Rattle.state_blocks.specs.Needing.{AgreeOnNeeded, NeededIsAll}
-use Rattle.file_puts.specs.declared.streams.VolumeStreams.{VolumeStreams}
+use Rattle.working_volume.specs.map_change.Parts.{MapParts}
+use Rattle.working_volume.specs.spares_at_mount.Mounts.{LiesInLog}
+use Rattle.working_volume.specs.state_blocks.Needing.{AgreeOnNeeded, NeededIsAll}
+use Rattle.working_volume.specs.file_puts.declared.streams.VolumeStreams.{VolumeStreams}
 use Rattle.txn_model.specs.Values.{StoreFacts}
-use Rattle.state_store.specs.Volumes.{geometry_of}
-use Rattle.volume_mount.specs.Mounts.{has_no_journal}
+use Rattle.working_volume.specs.state_store.Volumes.{geometry_of}
+use Rattle.working_volume.specs.volume_mount.Mounts.{has_no_journal}
 use Rattle.working_volume.specs.Ready.{RunsLieInLog, IsReady}
 use Rattle.volume_core.proofs.Records.{base_same}
 

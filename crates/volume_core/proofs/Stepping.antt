@@ -13,22 +13,22 @@ use Rattle.state_model.specs.declared.geometry.Geometry.{Geometry}
 use Rattle.state_model.specs.declared.geometry.MapRefusal.{MapRefusal}
 use Rattle.volume_model.specs.Volumes.{Volume, volume_of}
 use Rattle.volume_state.specs.Trees.{tree_of}
-use Rattle.map_change.specs.Parts.{MapParts, parts_of, map_of}
-use Rattle.plan_owners.specs.States.{Stands}
+use Rattle.working_volume.specs.map_change.Parts.{MapParts, parts_of, map_of}
+use Rattle.working_volume.specs.plan_owners.States.{Stands}
 use Rattle.tree_model.specs.declared.script.Op.{Op}
 use Rattle.tree_model.specs.declared.script.Op.TheVariants as op
 use Rattle.tree_model.specs.declared.reply.Reply.{Reply}
 use Rattle.tree_model.specs.Steps.{HasStep, IsStep}
-use Rattle.step_model.specs.Steps.{Step}
-use Rattle.step_model.specs.StepLaws.{StepsStay, StepsOfTrees}
-use Rattle.change_plan.specs.States.{is_data_change}
-use Rattle.file_puts.specs.declared.streams.VolumeStreams.{VolumeStreams}
+use Rattle.working_volume.specs.step_model.Steps.{Step}
+use Rattle.working_volume.specs.step_model.StepLaws.{StepsStay, StepsOfTrees}
+use Rattle.working_volume.specs.change_plan.States.{is_data_change}
+use Rattle.working_volume.specs.file_puts.declared.streams.VolumeStreams.{VolumeStreams}
 use Rattle.txn_state.specs.States.{StateOf, facts_of}
-use Rattle.txn_core.specs.Views.{present_content}
-use Rattle.state_store.specs.declared.fault.PutFault.{PutFault}
-use Rattle.state_store.specs.Puts.{PutsContent, PutsMap}
-use Rattle.state_store.specs.Volumes.{geometry_of, IsStateOf, HoldsState}
-use Rattle.state_store.proofs.Following.{has_map}
+use Rattle.working_volume.specs.txn_core.Views.{present_content}
+use Rattle.working_volume.specs.state_store.declared.fault.PutFault.{PutFault}
+use Rattle.working_volume.specs.state_store.Puts.{PutsContent, PutsMap}
+use Rattle.working_volume.specs.state_store.Volumes.{geometry_of, IsStateOf, HoldsState}
+use Rattle.working_volume.proofs.state_store.Following.{has_map}
 use Rattle.working_volume.specs.declared.fault.DoFault.{DoFault}
 use Rattle.working_volume.specs.Ready.{IsReady}
 use Rattle.working_volume.specs.Doing.{DoesStep, Does}

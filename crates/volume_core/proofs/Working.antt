@@ -7,22 +7,22 @@ use Rattle.disk_model.specs.Content.{Content}
 use Rattle.sector_device.specs.Moments.{Changes}
 use Rattle.log_reading.specs.Rings.{IsRingPlace}
 use Rattle.volume_state.specs.Trees.{tree_of}
-use Rattle.volume_lookup.specs.Known.{known_tree}
-use Rattle.volume_lookup.proofs.Asking.{known_where}
-use Rattle.volume_tree.specs.declared.names.Names.{Names}
-use Rattle.volume_tree.specs.Named.{AreNamesOf}
-use Rattle.map_change.specs.Parts.{MapParts}
-use Rattle.state_blocks.specs.Needing.{NeededIsAll}
-use Rattle.file_puts.specs.declared.streams.VolumeStreams.{VolumeStreams}
+use Rattle.working_volume.specs.volume_lookup.Known.{known_tree}
+use Rattle.working_volume.proofs.volume_lookup.Asking.{known_where}
+use Rattle.working_volume.specs.volume_tree.declared.names.Names.{Names}
+use Rattle.working_volume.specs.volume_tree.Named.{AreNamesOf}
+use Rattle.working_volume.specs.map_change.Parts.{MapParts}
+use Rattle.working_volume.specs.state_blocks.Needing.{NeededIsAll}
+use Rattle.working_volume.specs.file_puts.declared.streams.VolumeStreams.{VolumeStreams}
 use Rattle.tree_model.specs.declared.script.Op.{Op}
 use Rattle.tree_model.specs.declared.reply.Reply.{Reply}
 use Rattle.txn_state.specs.States.{StateOf, facts_of}
-use Rattle.txn_core.specs.Views.{present_on, present_content}
-use Rattle.txn_laws.specs.Windows.{Simulates}
+use Rattle.working_volume.specs.txn_core.Views.{present_on, present_content}
+use Rattle.working_volume.specs.txn_laws.Windows.{Simulates}
 use Rattle.store_claims.specs.Windows.{StoreWindow}
-use Rattle.state_store.specs.Volumes.{geometry_of, IsStateOf, HoldsState}
-use Rattle.state_store.specs.Turns.{AgreeWhereKnown, TurnsVolume}
-use Rattle.state_store.proofs.Sparing.{place_stays}
+use Rattle.working_volume.specs.state_store.Volumes.{geometry_of, IsStateOf, HoldsState}
+use Rattle.working_volume.specs.state_store.Turns.{AgreeWhereKnown, TurnsVolume}
+use Rattle.working_volume.proofs.state_store.Sparing.{place_stays}
 use Rattle.working_volume.specs.declared.fault.DoFault.{DoFault}
 use Rattle.working_volume.specs.Ready.{IsReady}
 use Rattle.working_volume.specs.Doing.{Does}

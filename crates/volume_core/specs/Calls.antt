@@ -3,13 +3,13 @@ use Rattle.std.specs.Prelude.{◌≡◌, ◌⊎◌, ℕ, suc, ◌≤◌, max, Li
 use Rattle.sector_device.specs.Moments.{Changes, MayLeaveNow, LeftSince}
 use Rattle.file_tree.specs.declared.tree.Tree.{Tree}
 use Rattle.volume_state.specs.Trees.{tree_of}
-use Rattle.volume_mount.specs.Mounts.{MountedVolume}
-use Rattle.txn_laws.specs.Windows.{lap_behind}
-use Rattle.txn_mount.specs.Mountable.{IsFar}
+use Rattle.working_volume.specs.volume_mount.Mounts.{MountedVolume}
+use Rattle.working_volume.specs.txn_laws.Windows.{lap_behind}
+use Rattle.crash_trees.specs.txn_mount.Mountable.{IsFar}
 use Rattle.txn_state.specs.States.{facts_of}
-use Rattle.txn_core.specs.Views.{present_on}
-use Rattle.txn_close.specs.declared.fault.CloseFault.{CloseFault}
-use Rattle.txn_close.specs.Ends.{Closes}
+use Rattle.working_volume.specs.txn_core.Views.{present_on}
+use Rattle.crash_trees.specs.txn_close.declared.fault.CloseFault.{CloseFault}
+use Rattle.crash_trees.specs.txn_close.Ends.{Closes}
 use Rattle.crash_trees.specs.Starts.{BeginsAsMounted}
 use Rattle.crash_trees.specs.Mounting.{MountsAsOne}
 use Rattle.crash_trees.specs.Closing.{LeavesNewest, LeftByClose}

@@ -2,10 +2,10 @@
 use Rattle.std.specs.Prelude.{◌≡◌, ℕ, ◌-◌, List, Option, Some}
 use Rattle.sector_device.specs.Moments.{Changes, MayLeaveNow}
 use Rattle.file_tree.specs.declared.tree.Tree.{Tree}
-use Rattle.volume_mount.specs.Mounts.{MountedVolume}
+use Rattle.working_volume.specs.volume_mount.Mounts.{MountedVolume}
 use Rattle.store_claims.specs.Windows.{StoreWindow}
-use Rattle.txn_laws.specs.Windows.{lap_behind}
-use Rattle.txn_mount.specs.Mountable.{IsFar}
+use Rattle.working_volume.specs.txn_laws.Windows.{lap_behind}
+use Rattle.crash_trees.specs.txn_mount.Mountable.{IsFar}
 use Rattle.txn_state.specs.States.{facts_of}
 use Rattle.crash_trees.specs.Trees.{HoldsTrees}
 use Rattle.crash_trees.specs.Mounting.{MountsAsOne}

@@ -6,8 +6,8 @@ use Rattle.tree_model.specs.declared.script.Op.{Op}
 use Rattle.tree_model.specs.declared.reply.Reply.{Reply}
 use Rattle.tree_model.specs.declared.reply.Reply.TheVariants.{Fault}
 use Rattle.tree_model.specs.Steps.{is_given_up, Replies, IsStep}
-use Rattle.volume_mount.specs.Answers.{CountsReplyOnDevice}
-use Rattle.txn_core.specs.Seen.{Seen}
+use Rattle.working_volume.specs.volume_mount.Answers.{CountsReplyOnDevice}
+use Rattle.working_volume.specs.txn_core.Seen.{Seen}
 
 -- The reply is what the tree says, and a step that leaves it.
 pub record RepliesOf (upper : List ℕ) (op : Op) (reply : Reply) (t : Tree) : Type 0 where

@@ -1,9 +1,9 @@
 -- What a step of its store leaves of a volume that is ready for operations.
 use Rattle.std.specs.Prelude.{◌≡◌, ℕ, List}
 use Rattle.disk_model.specs.Content.{Content}
-use Rattle.map_change.specs.Parts.{MapParts}
-use Rattle.state_blocks.specs.Needing.{AgreeOnNeeded}
-use Rattle.file_puts.specs.declared.streams.VolumeStreams.{VolumeStreams}
+use Rattle.working_volume.specs.map_change.Parts.{MapParts}
+use Rattle.working_volume.specs.state_blocks.Needing.{AgreeOnNeeded}
+use Rattle.working_volume.specs.file_puts.declared.streams.VolumeStreams.{VolumeStreams}
 use Rattle.txn_model.specs.Values.{StoreFacts}
 use Rattle.working_volume.specs.Ready.{IsReady}
 

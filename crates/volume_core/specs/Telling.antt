@@ -6,7 +6,7 @@ use Rattle.flush_policy.specs.Choice.{next_step}
 use Rattle.flush_policy.specs.Steps.{IsDone}
 use Rattle.txn_model.specs.Told.{FactsTold}
 use Rattle.txn_state.specs.States.{StateOf, facts_of}
-use Rattle.txn_core.specs.Leading.{dirty_blocks}
+use Rattle.working_volume.specs.txn_core.Leading.{dirty_blocks}
 
 -- The step is chosen by what the store tells of itself, and there is none exactly where nothing is left to do.
 pub record ComesNext (s : StateOf) (step : Option StoreStep) : Type 0 where

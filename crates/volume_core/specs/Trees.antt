@@ -4,8 +4,8 @@ use Rattle.file_tree.specs.declared.tree.Tree.{Tree}
 use Rattle.tree_model.specs.declared.script.Op.{Op}
 use Rattle.tree_model.specs.declared.reply.Reply.{Reply}
 use Rattle.tree_model.specs.Steps.{IsStep}
-use Rattle.step_model.specs.Steps.{Done, answer_of}
-use Rattle.step_model.specs.StepLaws.{is_content_row}
+use Rattle.working_volume.specs.step_model.Steps.{Done, answer_of}
+use Rattle.working_volume.specs.step_model.StepLaws.{is_content_row}
 use Rattle.working_volume.specs.declared.fault.DoFault.{DoFault}
 
 -- The reply is a step from the one tree to the other, but where a full record refuses the operation, of which a tree doesn't tell; and what isn't done leaves the tree.

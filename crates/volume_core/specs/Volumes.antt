@@ -5,14 +5,14 @@ use Rattle.sector_device.specs.Moments.{Changes}
 use Rattle.file_tree.specs.declared.tree.Tree.{Tree}
 use Rattle.log_reading.specs.Rings.{IsRingPlace}
 use Rattle.volume_state.specs.Trees.{tree_of}
-use Rattle.map_change.specs.Parts.{MapParts}
-use Rattle.volume_tree.specs.declared.names.Names.{Names}
-use Rattle.volume_tree.specs.Named.{AreNamesOf}
-use Rattle.file_puts.specs.declared.streams.VolumeStreams.{VolumeStreams}
+use Rattle.working_volume.specs.map_change.Parts.{MapParts}
+use Rattle.working_volume.specs.volume_tree.declared.names.Names.{Names}
+use Rattle.working_volume.specs.volume_tree.Named.{AreNamesOf}
+use Rattle.working_volume.specs.file_puts.declared.streams.VolumeStreams.{VolumeStreams}
 use Rattle.txn_state.specs.States.{StateOf, facts_of}
-use Rattle.txn_core.specs.Seen.{Seen}
-use Rattle.txn_core.specs.Views.{present_content}
-use Rattle.state_store.specs.Volumes.{HoldsState}
+use Rattle.working_volume.specs.txn_core.Seen.{Seen}
+use Rattle.working_volume.specs.txn_core.Views.{present_content}
+use Rattle.working_volume.specs.state_store.Volumes.{HoldsState}
 use Rattle.working_volume.specs.Ready.{IsReady}
 
 -- A volume: its store on a device, the map of its content, its table of upper-case units, and the streams of its file table, of the table's mirror and of the bits of its clusters.

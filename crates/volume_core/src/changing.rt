@@ -3,9 +3,9 @@ ghost use Rattle.std.specs.Prelude.{◌≡◌, true, None, Err, Ok};
 ghost use Rattle.host_base.specs.Causes.{HasFailed};
 ghost use Rattle.tree_model.specs.declared.reply.Reply.TheVariants as replies;
 ghost use Rattle.tree_model.specs.Steps.{IsWithinBounds};
-ghost use Rattle.change_plan.specs.States.{is_data_change};
+ghost use Rattle.working_volume.specs.change_plan.States.{is_data_change};
 ghost use Rattle.txn_state.specs.States.{facts_of};
-ghost use Rattle.state_store.specs.Rooms.{MayNumber};
+ghost use Rattle.working_volume.specs.state_store.Rooms.{MayNumber};
 ghost use Rattle.working_volume.specs.declared.fault.DoFault.TheVariants as do_faults;
 ghost use Rattle.working_volume.specs.Doing.{Does};
 ghost use Rattle.volume_core.specs.Volumes.{volume_tree};
@@ -13,12 +13,10 @@ ghost use Rattle.volume_core.specs.Trees.{StepsTree};
 ghost use Rattle.volume_core.specs.Calls.{GoesOn};
 
 use crate::volume::Volume;
-use change_plan::{Op, Reply};
 use crash_trees::{trees_mount, trees_put};
 use sector_device::Device;
 use std::alloc::Global;
-use step_model::{steps_of_trees, steps_stay};
-use working_volume::{DoFault, change_over};
+use working_volume::{DoFault, Op, Reply, change_over, steps_of_trees, steps_stay};
 
 impl<D: Device> Volume<D> {
     /// Does an operation that writes, fills or cuts a file. `stamp` is the time of the change, in

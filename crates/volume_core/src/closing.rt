@@ -1,12 +1,11 @@
 //! A volume is closed.
 ghost use Rattle.device_view.specs.Devices.{CountsOnDevice};
-ghost use Rattle.txn_close.specs.Ends.{close_cause};
+ghost use Rattle.crash_trees.specs.txn_close.Ends.{close_cause};
 ghost use Rattle.volume_core.specs.Calls.{ClosesTrees};
 
 use crate::volume::Volume;
-use crash_trees::{close_leaves, trees_close};
+use crash_trees::{CloseFault, close, close_leaves, trees_close};
 use sector_device::Device;
-use txn_close::{CloseFault, close};
 
 impl<D: Device> Volume<D> {
     /// Closes the volume, and gives its device back: all that its store holds is written out, and its

@@ -16,9 +16,9 @@ mod telling;
 mod turning;
 mod volume;
 
+pub use crash_trees::CloseFault;
 pub use flush_policy::{Facts, StoreStep};
 pub use host_base::Failed;
 pub use laws::ready_stays;
-pub use txn_close::CloseFault;
 pub use volume::Volume;
 pub use working_volume::DoFault;

@@ -3,26 +3,24 @@ ghost use Rattle.std.specs.Prelude.{◌≡◌, ℕ, true, false, length, IfSome}
 ghost use Rattle.block_view.specs.Views.{KeepsView};
 ghost use Rattle.tree_model.specs.Steps.{is_look, is_given_up, Replies, IsStep};
 ghost use Rattle.tree_lookup.specs.Answered.{CountsReply};
-ghost use Rattle.volume_map.specs.Maps.{volume_in};
-ghost use Rattle.volume_tree.specs.Named.{AreNamesOf};
-ghost use Rattle.volume_lookup.specs.Known.{known_tree};
-ghost use Rattle.map_change.specs.Parts.{live_parts};
-ghost use Rattle.txn_core.specs.Views.{present_content};
-ghost use Rattle.state_store.specs.Preparing.{KeepsSeen};
+ghost use Rattle.working_volume.specs.volume_map.Maps.{volume_in};
+ghost use Rattle.working_volume.specs.volume_tree.Named.{AreNamesOf};
+ghost use Rattle.working_volume.specs.volume_lookup.Known.{known_tree};
+ghost use Rattle.working_volume.specs.map_change.Parts.{live_parts};
+ghost use Rattle.working_volume.specs.txn_core.Views.{present_content};
+ghost use Rattle.working_volume.specs.state_store.Preparing.{KeepsSeen};
 ghost use Rattle.volume_core.specs.Volumes.{volume_tree};
 ghost use Rattle.volume_core.specs.Calls.{StaysPut};
 ghost use Rattle.volume_core.specs.Looks.{RepliesOf, CountsLook};
 
 use crate::volume::Volume;
 use block_view::View;
-use change_plan::{NamedVolume, Names, Op, Reply, Upcase};
-use map_change::LiveMap;
 use sector_device::Device;
 use std::alloc::Global;
 use tree_lookup::answer;
-use txn_core::{Store, StoreView};
-use volume_census::LentView;
-use volume_lookup::VolumeTree;
+use working_volume::{
+    LentView, LiveMap, NamedVolume, Names, Op, Reply, Store, StoreView, Upcase, VolumeTree,
+};
 
 // The reply of a loaded volume, whose table of upper-case units this is, over a view of its content.
 fn reply_over<V: View>(

@@ -2,20 +2,20 @@
 ghost use Rattle.std.specs.Prelude.{◌≡◌, ◌^◌, ◌<◌, ◌↔◌, true, IfSome};
 ghost use Rattle.log_page.specs.Places.{sequence_bits};
 ghost use Rattle.log_reading.specs.Rings.{IsRingPlace};
-ghost use Rattle.txn_laws.specs.Windows.{lap_behind};
+ghost use Rattle.working_volume.specs.txn_laws.Windows.{lap_behind};
 ghost use Rattle.txn_state.specs.States.{facts_of};
-ghost use Rattle.txn_core.specs.Steps.{MayTurn};
-ghost use Rattle.txn_core.specs.Turns.{HasNext};
-ghost use Rattle.state_store.specs.Rooms.{MayNumber};
+ghost use Rattle.working_volume.specs.txn_core.Steps.{MayTurn};
+ghost use Rattle.working_volume.specs.txn_core.Turns.{HasNext};
+ghost use Rattle.working_volume.specs.state_store.Rooms.{MayNumber};
 ghost use Rattle.volume_core.specs.Telling.{ComesNext};
 
 use crate::volume::Volume;
+use crash_trees::has_next;
 use flush_policy::{StoreStep, next_step};
 use log_page::{lap_of, sequence_bits};
 use sector_device::Device;
-use txn_close::has_next;
-use txn_core::steps_lead_on;
 use txn_state::StoreState;
+use working_volume::steps_lead_on;
 
 // Whether LSNs have 64 bits in the lap behind that of the least entry which the store would append
 // next.

@@ -2,21 +2,19 @@
 ghost use Rattle.std.specs.Prelude.{◌≡◌};
 ghost use Rattle.host_base.specs.Causes.{FailsByCause};
 ghost use Rattle.txn_state.specs.States.{facts_of};
-ghost use Rattle.txn_core.specs.Seen.{TakesStep};
-ghost use Rattle.txn_core.specs.Steps.{MayTurn, HasTurned, TurnsDevice, AfterTurn};
-ghost use Rattle.state_store.specs.Turns.{TurnsVolume};
+ghost use Rattle.working_volume.specs.txn_core.Seen.{TakesStep};
+ghost use Rattle.working_volume.specs.txn_core.Steps.{MayTurn, HasTurned, TurnsDevice, AfterTurn};
+ghost use Rattle.working_volume.specs.state_store.Turns.{TurnsVolume};
 ghost use Rattle.volume_core.specs.Volumes.{volume_tree};
 ghost use Rattle.volume_core.specs.Calls.{TurnsTrees};
 
 use crate::laws::ready_stays;
 use crate::volume::Volume;
-use crash_trees::{trees_mount, trees_turn};
+use crash_trees::{steps_stay, trees_mount, trees_turn};
 use flush_policy::StoreStep;
-use found_stays::steps_stay;
 use host_base::Failed;
 use sector_device::Device;
-use state_blocks::needed_is_all;
-use state_store::turn_store;
+use working_volume::{needed_is_all, turn_store};
 
 impl<D: Device> Volume<D> {
     /// Takes a step of the store, as [`flush_policy::next_step`] chooses it by the volume's

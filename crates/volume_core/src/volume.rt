@@ -1,31 +1,28 @@
 //! What a volume has, and what it tells of itself.
 ghost use Rattle.std.specs.Prelude.{◌≡◌, ◌↔◌, true, Some, length, IfSome};
 ghost use Rattle.log_reading.specs.Rings.{IsRingPlace};
-ghost use Rattle.map_change.specs.Parts.{live_parts};
-ghost use Rattle.volume_tree.specs.Named.{AreNamesOf};
+ghost use Rattle.working_volume.specs.map_change.Parts.{live_parts};
+ghost use Rattle.working_volume.specs.volume_tree.Named.{AreNamesOf};
 ghost use Rattle.flush_policy.specs.declared.facts.StoreStep.{StoreStep as StepOf};
 ghost use Rattle.flush_policy.specs.Choice.{next_step};
 ghost use Rattle.log_area.specs.Areas.{next_lsn};
 ghost use Rattle.txn_model.specs.Told.{FactsTold, KeepsSteps};
 ghost use Rattle.txn_state.specs.States.{facts_of};
-ghost use Rattle.txn_core.specs.Kept.{IsKept};
-ghost use Rattle.txn_core.specs.Steps.{MayTurn};
-ghost use Rattle.txn_core.specs.Tells.{HasLap};
-ghost use Rattle.txn_core.specs.Turns.{HasNext};
-ghost use Rattle.txn_core.specs.Views.{present_content};
-ghost use Rattle.state_store.specs.Volumes.{HoldsState};
+ghost use Rattle.working_volume.specs.txn_core.Kept.{IsKept};
+ghost use Rattle.working_volume.specs.txn_core.Steps.{MayTurn};
+ghost use Rattle.working_volume.specs.txn_core.Tells.{HasLap};
+ghost use Rattle.working_volume.specs.txn_core.Turns.{HasNext};
+ghost use Rattle.working_volume.specs.txn_core.Views.{present_content};
+ghost use Rattle.working_volume.specs.state_store.Volumes.{HoldsState};
 ghost use Rattle.working_volume.specs.Ready.{IsReady};
 ghost use Rattle.volume_core.specs.Histories.{LeavesTrees};
 ghost use Rattle.volume_core.specs.Calls.{StartsHistory};
 
-use change_plan::{Names, Upcase, VolumeStreams};
-use crash_trees::{trees_mount, trees_start};
+use crash_trees::{has_next, trees_mount, trees_start};
 use flush_policy::Facts;
-use map_change::LiveMap;
 use sector_device::Device;
 use std::marker::Model;
-use txn_close::has_next;
-use txn_core::{Store, steps_lead_on};
+use working_volume::{LiveMap, Names, Store, Upcase, VolumeStreams, steps_lead_on};
 
 /// A volume on a device, with what it keeps in memory: its store, the map of its content, its table
 /// of upper-case units, the names of its files, and room for a piece of the device.
@@ -40,7 +37,7 @@ pub struct Volume<D: Device> {
 }
 
 impl<D: Device> Model for Volume<D> {
-    ghost use Rattle.map_change.specs.Parts.{live_parts};
+    ghost use Rattle.working_volume.specs.map_change.Parts.{live_parts};
     ghost use Rattle.volume_core.specs.Volumes.{SeenVolume, IsWorking};
 
     ghost Value = { SeenVolume D };

@@ -1,3 +1,4 @@
+pub use Rattle.record_writer.proofs as record_writer
 pub mod Placing
 pub mod FittingAttributes
 pub mod FittingStreams

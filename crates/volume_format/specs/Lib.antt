@@ -1,3 +1,4 @@
+pub use Rattle.record_writer.specs as record_writer
 pub mod Layouts
 pub mod Answers
 pub mod Files

@@ -8,11 +8,10 @@ use crate::attributes::{name_attribute, resident, standard};
 use crate::layout::Layout;
 use crate::naming::{data_of, is_directory, sequence};
 use crate::streams::{push_data, push_others};
-use file_record::FileRec;
 use fixup_record::protect;
 use host_base::{Bytes, FileRef, Memory};
 use record_model::{DATA, RecHead};
-use record_writer::WrittenRecord;
+use record_writer::{FileRec, WrittenRecord};
 use std::alloc::{AllocError, Global};
 use utf16_name::Units;
 

@@ -12,13 +12,13 @@ use crate::attributes::{Stream, mapped, resident};
 use crate::layout::Layout;
 use crate::naming::{Data, units};
 use crate::zeros::zeroed;
-use file_record::FileRec;
 use host_base::{Bytes, Memory};
 use index_node::write_root;
 use record_model::{
     Attr, BITMAP_TYPE, DATA, EntryList, INDEX_ALLOCATION, INDEX_ROOT, NAMES_INDEX,
     VOLUME_INFORMATION, VOLUME_NAME, VolumeInfo, last_entry,
 };
+use record_writer::FileRec;
 use std::alloc::{AllocError, Global};
 use std_values::FixedValue;
 use utf16_name::Units;

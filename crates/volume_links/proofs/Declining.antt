@@ -12,9 +12,9 @@ use Rattle.record_model.specs.Values.{has_lawful_value}
 use Rattle.record_model.specs.Constants.{attribute_list, index_allocation}
 use Rattle.record_model.specs.Attributes.{has_length, is_inside, attr_of}
 use Rattle.record_model.specs.Records.{Record, Pieces, with_piece, cut, types_rise, has_first, has_size, is_base, is_end_mark, most_attributes, attribute_bytes, rec_head_of, shaped_at, has_lawful_values}
-use Rattle.attr_codec.specs.declared.borrowed.AttrFault.{AttrFault}
-use Rattle.attr_codec.specs.declared.borrowed.AttrFault.TheVariants.{Rule}
-use Rattle.attr_codec.specs.Reading.{own_bytes, attr_at, attr_cause}
+use Rattle.file_record.specs.attr_codec.declared.borrowed.AttrFault.{AttrFault}
+use Rattle.file_record.specs.attr_codec.declared.borrowed.AttrFault.TheVariants.{Rule}
+use Rattle.file_record.specs.attr_codec.Reading.{own_bytes, attr_at, attr_cause}
 use Rattle.file_tree.specs.declared.link.Link.{Link}
 use Rattle.state_model.specs.Files.{is_base_record, has_type}
 use Rattle.state_model.specs.Loads.{has_fitting_pairs, has_all_pairs, whole_record}

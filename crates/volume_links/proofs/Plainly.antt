@@ -20,7 +20,7 @@ use Rattle.record_model.proofs.Answering.{needs_from_ok}
 use Rattle.record_model.proofs.Attributes.{own_from_length}
 use Rattle.record_model.proofs.FileNames.{file_name_lawful}
 use Rattle.record_model.specs.Constants.{attribute_list, index_allocation}
-use Rattle.attr_codec.specs.Reading.{own_bytes, attr_at}
+use Rattle.file_record.specs.attr_codec.Reading.{own_bytes, attr_at}
 use Rattle.file_tree.specs.declared.link.Link.{Link}
 use Rattle.file_tree.specs.Trees.{is_long}
 use Rattle.state_model.specs.Files.{is_base_record, has_type, named, attr_link, record_links}

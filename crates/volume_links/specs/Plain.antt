@@ -9,7 +9,7 @@ use Rattle.record_model.specs.StdValues.{file_name_of}
 use Rattle.record_model.specs.Attributes.{is_inside, attr_of}
 use Rattle.record_model.specs.Records.{Record, cut, most_attributes, types_rise, Pieces}
 use Rattle.record_model.specs.Constants.{standard_information, attribute_list, file_name, index_allocation}
-use Rattle.attr_codec.specs.Reading.{attr_at}
+use Rattle.file_record.specs.attr_codec.Reading.{attr_at}
 use Rattle.file_tree.specs.declared.link.Link.{Link}
 use Rattle.file_tree.specs.Trees.{is_long}
 use Rattle.state_model.specs.Files.{is_base_record, has_type, named, attr_link, record_links}

@@ -11,3 +11,5 @@ mod plain;
 mod scanning;
 
 pub use loading::load_links;
+pub use record_model::VolumeInfo;
+pub use record_rules::all_links;

@@ -16,8 +16,7 @@ use disk_model::{BlockKind, Body};
 use file_tree::Link;
 use state_model::{ClusterSize, Extents, Geometry};
 use std::alloc::Global;
-use stream_map::has_cut_block;
-use volume_map::{MapFault, files_in, table_of};
+use volume_map::{MapFault, files_in, has_cut_block, table_of};
 
 // The long names of the files of a table, of which some may have attribute lists.
 fn links_of_files<V: View>(

@@ -7,15 +7,15 @@ ghost use Rattle.record_model.specs.Pairs.{runs_of};
 ghost use Rattle.record_model.specs.StdValues.{file_name_of};
 ghost use Rattle.record_model.specs.Records.{has_first, has_size, is_base, attribute_bytes, is_end_mark, cut, most_attributes};
 ghost use Rattle.record_model.specs.Constants.{standard_information, file_name};
-ghost use Rattle.attr_codec.specs.Reading.{attr_seen, attr_at};
+ghost use Rattle.file_record.specs.attr_codec.Reading.{attr_seen, attr_at};
 ghost use Rattle.file_tree.specs.Trees.{is_long};
 ghost use Rattle.state_model.specs.Files.{named, attr_link};
 ghost use Rattle.state_model.specs.Loads.{span, has_fitting_pairs, whole_record};
 ghost use Rattle.volume_links.specs.Plain.{Grows, is_lawful, value_link, may_follow, are_plain, is_plain, TakesPlain, ArePlain, IsPlain};
 
 use crate::names::push_long;
-use attr_codec::{AttrRef, Form, read};
 use disk_model::{u16_at, u32_at, u64_at};
+use file_record::{AttrRef, FixedValue, Form, read};
 use file_tree::Link;
 use host_base::{FileRef, Memory};
 use record_model::{
@@ -24,7 +24,6 @@ use record_model::{
 };
 use record_rules::value_link;
 use std::alloc::Global;
-use std_values::FixedValue;
 use volume_map::pairs_fit;
 
 // Whether the first attribute begins at a multiple of 8 inside the used bytes.

@@ -17,8 +17,9 @@ use host_base::Memory;
 use record_model::ATTRIBUTE_LIST;
 use state_model::{ClusterSize, Extents, MapRefusal};
 use std::alloc::Global;
-use stream_map::block_at;
-use volume_map::{MapFault, cuts_index, has_type, is_base_record, is_used, or_rule, whole_record};
+use volume_map::{
+    MapFault, block_at, cuts_index, has_type, is_base_record, is_used, or_rule, whole_record,
+};
 
 /// What a scan found of the first records of a table: the long names of the files among them, none
 /// of which has an attribute list, and what refuses the first that breaks a rule.

@@ -5,21 +5,21 @@ use Rattle.std.specs.Option.{option_map}
 use Rattle.std.specs.Cmp.Lexicographic.{bytes_decides}
 use Rattle.std.proofs.lemmas.Bool.{and_parts}
 use Rattle.disk_model.specs.Content.{Content}
-use Rattle.record_model.specs.Records.{Record}
+use Rattle.volume_tree.specs.record_model.Records.{Record}
 use Rattle.file_tree.specs.declared.node.Kind.TheVariants.{Directory, File, Fixed, Opaque, System}
 use Rattle.file_tree.specs.declared.node.Node.{Node}
 use Rattle.file_tree.specs.declared.tree.Tree.{Tree}
 use Rattle.file_tree.specs.Names.{same_units}
 use Rattle.file_tree.specs.Trees.{node_at as node_by_number, is_directory_kind, is_directory_node, is_directory, without_bytes}
-use Rattle.state_model.specs.declared.broken.Broken.{Broken}
-use Rattle.state_model.specs.declared.stream.Stream.{Stream}
-use Rattle.state_model.specs.Files.{is_directory_record}
-use Rattle.state_model.specs.Trees.{is_nameless, all_links}
-use Rattle.volume_model.specs.Volumes.{Volume, files_by_number, count_of, file_in, upper_of, bytes_or}
-use Rattle.volume_model.specs.Nodes.{no_bytes, kind_in, node_with, node_by, some_node, node_at, all_nodes}
-use Rattle.volume_state.specs.Rules.{first_broken}
-use Rattle.volume_state.specs.Trees.{tree_with, tree_of}
-use Rattle.tree_laws.proofs.Numbering.{found_by_number}
+use Rattle.record_rules.specs.state_model.declared.broken.Broken.{Broken}
+use Rattle.record_rules.specs.state_model.declared.stream.Stream.{Stream}
+use Rattle.record_rules.specs.state_model.Files.{is_directory_record}
+use Rattle.record_rules.specs.state_model.Trees.{is_nameless, all_links}
+use Rattle.volume_tree.specs.volume_model.Volumes.{Volume, files_by_number, count_of, file_in, upper_of, bytes_or}
+use Rattle.volume_tree.specs.volume_model.Nodes.{no_bytes, kind_in, node_with, node_by, some_node, node_at, all_nodes}
+use Rattle.volume_tree.specs.volume_state.Rules.{first_broken}
+use Rattle.volume_tree.specs.volume_state.Trees.{tree_with, tree_of}
+use Rattle.lookup_laws.proofs.tree_laws.Numbering.{found_by_number}
 use Rattle.tree_lookup.specs.Asked.{bare_at}
 use Rattle.volume_lookup.specs.Known.{is_unbroken, is_asked_so, known_tree}
 

@@ -4,13 +4,13 @@ use Rattle.std.specs.Prelude.{IfSome, replicate, if◌then◌else◌}
 use Rattle.host_base.specs.Answers.{GivesOrFails}
 use Rattle.disk_model.specs.Bytes.{zeros}
 use Rattle.disk_model.specs.Content.{Content}
-use Rattle.record_model.specs.Records.{Record}
+use Rattle.volume_tree.specs.record_model.Records.{Record}
 use Rattle.file_tree.specs.declared.node.Node.{Node}
-use Rattle.state_model.specs.declared.stream.Stream.{Stream}
-use Rattle.state_model.specs.Trees.{is_nameless}
-use Rattle.volume_model.specs.Volumes.{Volume, file_in, bytes_or}
-use Rattle.volume_model.specs.Nodes.{node_with, node_by, some_node}
-use Rattle.volume_state.specs.Trees.{tree_of}
+use Rattle.record_rules.specs.state_model.declared.stream.Stream.{Stream}
+use Rattle.record_rules.specs.state_model.Trees.{is_nameless}
+use Rattle.volume_tree.specs.volume_model.Volumes.{Volume, file_in, bytes_or}
+use Rattle.volume_tree.specs.volume_model.Nodes.{node_with, node_by, some_node}
+use Rattle.volume_tree.specs.volume_state.Trees.{tree_of}
 use Rattle.tree_model.specs.Fronts.{front_of}
 use Rattle.volume_tree.specs.Shown.{file_shown, some_shown, shown_at}
 use Rattle.tree_lookup.specs.declared.fault.LookupFault.{LookupFault}

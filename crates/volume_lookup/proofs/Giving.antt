@@ -6,11 +6,11 @@ use Rattle.disk_model.specs.Content.{Content}
 use Rattle.file_tree.specs.declared.node.Node.{Node}
 use Rattle.file_tree.specs.declared.link.Link.{Link}
 use Rattle.file_tree.specs.Trees.{is_directory, look_up, long_names_of, IsListing}
-use Rattle.state_model.specs.Files.{links_at}
-use Rattle.state_model.specs.Rules.{long_count}
-use Rattle.volume_model.specs.Volumes.{Volume, files_by_number}
-use Rattle.volume_model.specs.Nodes.{no_bytes, node_at}
-use Rattle.volume_state.specs.Trees.{tree_of}
+use Rattle.record_rules.specs.state_model.Files.{links_at}
+use Rattle.record_rules.specs.state_model.Rules.{long_count}
+use Rattle.volume_tree.specs.volume_model.Volumes.{Volume, files_by_number}
+use Rattle.volume_tree.specs.volume_model.Nodes.{no_bytes, node_at}
+use Rattle.volume_tree.specs.volume_state.Trees.{tree_of}
 use Rattle.lookup_laws.proofs.Owning.{own_long_names}
 use Rattle.tree_lookup.specs.declared.fault.LookupFault.{LookupFault}
 use Rattle.tree_lookup.specs.declared.fault.LookupFault.TheVariants.{Outside, Memory, Broken}

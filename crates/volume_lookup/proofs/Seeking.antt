@@ -3,19 +3,19 @@ use Rattle.std.proofs.Common.{◌≡◌, ℕ, true, List, Option, Some, None, Re
 use Rattle.std.specs.Option.{option_map}
 use Rattle.host_base.specs.Answers.{◌>>=◌, GivesOrFails}
 use Rattle.disk_model.specs.Content.{Content}
-use Rattle.record_model.specs.Records.{Record}
+use Rattle.volume_tree.specs.record_model.Records.{Record}
 use Rattle.file_tree.specs.declared.link.Link.{Link}
 use Rattle.file_tree.specs.Trees.{is_directory, look_up, IsListing}
-use Rattle.index_model.specs.Indexes.{Place}
-use Rattle.index_model.specs.Walks.{Broken, walk_of, find_of}
-use Rattle.index_model.proofs.WalkLaw.{passed_walk}
-use Rattle.index_tree.proofs.FindLaw.{find_passes}
-use Rattle.state_model.specs.Trees.{all_links}
-use Rattle.volume_model.specs.Volumes.{Volume, files_by_number, count_of, upper_of}
-use Rattle.volume_model.specs.Indexes.{index_place, root_value, links_read, links_below, index_links}
-use Rattle.volume_state.specs.Rules.{first_broken}
-use Rattle.volume_state.specs.Trees.{tree_of}
-use Rattle.tree_laws.proofs.Keeping.{rules_of}
+use Rattle.volume_tree.specs.index_model.Indexes.{Place}
+use Rattle.volume_tree.specs.index_model.Walks.{Broken, walk_of, find_of}
+use Rattle.volume_tree.proofs.index_model.WalkLaw.{passed_walk}
+use Rattle.directory_index.proofs.index_tree.FindLaw.{find_passes}
+use Rattle.record_rules.specs.state_model.Trees.{all_links}
+use Rattle.volume_tree.specs.volume_model.Volumes.{Volume, files_by_number, count_of, upper_of}
+use Rattle.volume_tree.specs.volume_model.Indexes.{index_place, root_value, links_read, links_below, index_links}
+use Rattle.volume_tree.specs.volume_state.Rules.{first_broken}
+use Rattle.volume_tree.specs.volume_state.Trees.{tree_of}
+use Rattle.lookup_laws.proofs.tree_laws.Keeping.{rules_of}
 use Rattle.lookup_laws.specs.Names.{chosen_of, named_so, long_units}
 use Rattle.lookup_laws.specs.Directories.{AreNamesThere}
 use Rattle.lookup_laws.proofs.Holding.{held_by_index}

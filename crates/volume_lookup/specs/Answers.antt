@@ -2,10 +2,10 @@
 use Rattle.std.specs.Prelude.{List, Option, Some, None, Result, Ok, Err}
 use Rattle.block_view.specs.declared.fault.ViewFault.TheVariants as views
 use Rattle.file_tree.specs.declared.link.Link.{Link}
-use Rattle.index_tree.specs.declared.fault.TreeFault.{TreeFault}
-use Rattle.index_tree.specs.declared.fault.TreeFault.TheVariants.{Node, Present, Absent, Deep, View}
-use Rattle.index_tree.specs.declared.place.DirPlace.{DirPlace}
-use Rattle.index_tree.specs.Places.{place_of}
+use Rattle.directory_index.specs.index_tree.declared.fault.TreeFault.{TreeFault}
+use Rattle.directory_index.specs.index_tree.declared.fault.TreeFault.TheVariants.{Node, Present, Absent, Deep, View}
+use Rattle.directory_index.specs.index_tree.declared.place.DirPlace.{DirPlace}
+use Rattle.directory_index.specs.index_tree.Places.{place_of}
 use Rattle.directory_index.specs.declared.fault.IndexFault.{IndexFault}
 use Rattle.directory_index.specs.declared.fault.IndexFault.TheVariants as indexes
 use Rattle.tree_lookup.specs.declared.fault.LookupFault.{LookupFault}

@@ -3,12 +3,12 @@ use Rattle.std.specs.Prelude.{ℕ, List, Option, Some, None, Result, Ok, Err}
 use Rattle.std.specs.Option.{option_map}
 use Rattle.host_base.specs.Answers.{◌>>=◌}
 use Rattle.disk_model.specs.Content.{Content}
-use Rattle.record_model.specs.Records.{Record}
+use Rattle.volume_tree.specs.record_model.Records.{Record}
 use Rattle.file_tree.specs.declared.link.Link.{Link}
-use Rattle.index_model.specs.Indexes.{Place}
-use Rattle.index_model.specs.Walks.{find_of}
-use Rattle.volume_model.specs.Volumes.{Volume, file_in}
-use Rattle.volume_model.specs.Indexes.{index_place, root_value, index_links}
+use Rattle.volume_tree.specs.index_model.Indexes.{Place}
+use Rattle.volume_tree.specs.index_model.Walks.{find_of}
+use Rattle.volume_tree.specs.volume_model.Volumes.{Volume, file_in}
+use Rattle.volume_tree.specs.volume_model.Indexes.{index_place, root_value, index_links}
 use Rattle.lookup_laws.specs.Names.{chosen_of, long_units}
 
 -- where an index lies, and its root's value

@@ -2,7 +2,7 @@
 use Rattle.std.specs.Prelude.{ℕ, List}
 use Rattle.disk_model.specs.Content.{Content}
 use Rattle.tree_model.specs.Fronts.{front_of}
-use Rattle.volume_model.specs.Volumes.{Volume, bytes_or}
+use Rattle.volume_tree.specs.volume_model.Volumes.{Volume, bytes_or}
 use Rattle.volume_tree.specs.Shown.{shown_at}
 
 -- those of the data that a file of a volume shows, and zeros behind them

@@ -3,10 +3,10 @@ use Rattle.std.specs.Prelude.{ℕ, Bool, true, false, ◌&&◌, if◌then◌else
 use Rattle.disk_model.specs.Content.{Content}
 use Rattle.file_tree.specs.Names.{same_units}
 use Rattle.file_tree.specs.declared.tree.Tree.{Tree}
-use Rattle.state_model.specs.declared.broken.Broken.{Broken}
-use Rattle.volume_model.specs.Volumes.{Volume, upper_of}
-use Rattle.volume_state.specs.Rules.{first_broken}
-use Rattle.volume_state.specs.Trees.{tree_of}
+use Rattle.record_rules.specs.state_model.declared.broken.Broken.{Broken}
+use Rattle.volume_tree.specs.volume_model.Volumes.{Volume, upper_of}
+use Rattle.volume_tree.specs.volume_state.Rules.{first_broken}
+use Rattle.volume_tree.specs.volume_state.Trees.{tree_of}
 
 abbrev pub is_unbroken : Option Broken → Bool
 is_unbroken None = true

@@ -2,24 +2,22 @@
 ghost use Rattle.std.specs.Prelude.{◌≡◌, Ok, IfSome};
 ghost use Rattle.host_base.specs.Answers.{Gives, GivesOrFails};
 ghost use Rattle.block_view.specs.Views.{AsksView};
-ghost use Rattle.index_model.specs.Walks.{find_of};
-ghost use Rattle.index_tree.specs.Places.{place_of};
-ghost use Rattle.volume_map.specs.Maps.{volume_in};
+ghost use Rattle.volume_tree.specs.index_model.Walks.{find_of};
+ghost use Rattle.directory_index.specs.index_tree.Places.{place_of};
+ghost use Rattle.volume_tree.specs.volume_map.Maps.{volume_in};
 ghost use Rattle.tree_lookup.specs.Asked.{lookup_cause};
 ghost use Rattle.volume_lookup.specs.Found.{or_none, index_at, link_found};
 ghost use Rattle.volume_lookup.specs.Answers.{rooted_of, answer_of};
 
 use crate::choosing::choose;
 use block_view::{View, ViewFault};
-use directory_index::index_place;
+use directory_index::{DirPlace, TreeFault, find, index_place};
 use file_tree::{Link, LinkList};
-use index_tree::{DirPlace, TreeFault, find};
 use record_rules::file_at;
 use std::alloc::Global;
 use tree_lookup::LookupFault;
-use upcase_order::Upcase;
 use utf16_name::Name;
-use volume_map::VolumeMap;
+use volume_tree::{Upcase, VolumeMap};
 
 // Where the index of the directory with this number lies.
 #[tactic(auto, unfolding(crate::specs::Found::index_at))]

@@ -14,7 +14,7 @@ mod reading;
 mod volume;
 
 pub use block_view::View;
-pub use tree_lookup::{Lookup, LookupFault};
-pub use upcase_order::Upcase;
+pub use record_rules::all_links;
+pub use tree_lookup::{Lookup, LookupFault, Op, Reply, answer};
 pub use volume::VolumeTree;
-pub use volume_tree::{NamedVolume, Names};
+pub use volume_tree::{Head, NamedVolume, Names, Upcase};

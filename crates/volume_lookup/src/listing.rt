@@ -2,7 +2,7 @@
 ghost use Rattle.std.specs.Prelude.{◌≡◌, IfOk, IfSome};
 ghost use Rattle.host_base.specs.Answers.{GivesOrFails};
 ghost use Rattle.block_view.specs.Views.{AsksView};
-ghost use Rattle.volume_map.specs.Maps.{volume_in};
+ghost use Rattle.volume_tree.specs.volume_map.Maps.{volume_in};
 ghost use Rattle.lookup_laws.specs.Names.{long_units};
 ghost use Rattle.tree_lookup.specs.Asked.{lookup_cause};
 ghost use Rattle.volume_lookup.specs.Found.{links_held, names_held};
@@ -14,8 +14,7 @@ use file_tree::{Link, LinkList, SHORT};
 use record_rules::file_at;
 use std::alloc::{AllocError, Global};
 use tree_lookup::{LookupFault, NameList};
-use upcase_order::Upcase;
-use volume_map::VolumeMap;
+use volume_tree::{Upcase, VolumeMap};
 
 // What a walk over an index comes to.
 fn walk_answer(walked: Result<Option<LinkList>, IndexFault>) -> Result<LinkList, LookupFault>

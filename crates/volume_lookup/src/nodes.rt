@@ -1,11 +1,11 @@
 //! The nodes of a loaded volume, and how many long names its files have.
 ghost use Rattle.std.specs.Prelude.{◌≡◌, Ok};
 ghost use Rattle.host_base.specs.Answers.{Gives};
-ghost use Rattle.state_model.specs.Files.{links_at};
-ghost use Rattle.state_model.specs.Loads.{table_in};
-ghost use Rattle.state_model.specs.Rules.{long_count};
-ghost use Rattle.volume_map.specs.Maps.{volume_in};
-ghost use Rattle.volume_model.specs.Nodes.{no_bytes, node_at};
+ghost use Rattle.record_rules.specs.state_model.Files.{links_at};
+ghost use Rattle.record_rules.specs.state_model.Loads.{table_in};
+ghost use Rattle.record_rules.specs.state_model.Rules.{long_count};
+ghost use Rattle.volume_tree.specs.volume_map.Maps.{volume_in};
+ghost use Rattle.volume_tree.specs.volume_model.Nodes.{no_bytes, node_at};
 ghost use Rattle.tree_lookup.specs.Asked.{lookup_cause};
 
 use file_tree::{Link, Node, SHORT};

@@ -3,19 +3,17 @@ ghost use Rattle.std.specs.Prelude.{◌≡◌, [], Ok, Some, None, length, IfSom
 ghost use Rattle.host_base.specs.Answers.{GivesOrFails};
 ghost use Rattle.disk_model.specs.Bytes.{zeros};
 ghost use Rattle.block_view.specs.Views.{AsksView};
-ghost use Rattle.volume_model.specs.Volumes.{bytes_or};
-ghost use Rattle.volume_map.specs.Maps.{volume_in};
+ghost use Rattle.volume_tree.specs.volume_model.Volumes.{bytes_or};
+ghost use Rattle.volume_tree.specs.volume_map.Maps.{volume_in};
 ghost use Rattle.tree_model.specs.Fronts.{front_of};
 ghost use Rattle.tree_lookup.specs.Asked.{lookup_cause};
 ghost use Rattle.volume_lookup.specs.Fronts.{front_shown};
 
 use block_view::View;
 use disk_model::Body;
-use state_model::{ClusterSize, Stream};
 use std::alloc::Global;
-use stream_map::front;
 use tree_lookup::LookupFault;
-use volume_tree::{NamedVolume, shown_at};
+use volume_tree::{ClusterSize, NamedVolume, Stream, front, shown_at};
 
 #[tactic(auto, unfolding(disk_model::specs::Bytes::zeros))]
 fn clear(out: &mut [u8])

@@ -1,8 +1,8 @@
 ghost use Rattle.std.specs.Prelude.{◌≡◌, None, Some, IfSome};
-ghost use Rattle.volume_map.specs.Maps.{volume_in};
-ghost use Rattle.volume_model.specs.Volumes.{upper_of};
-ghost use Rattle.volume_state.specs.Rules.{first_broken};
-ghost use Rattle.volume_state.specs.Trees.{tree_of};
+ghost use Rattle.volume_tree.specs.volume_map.Maps.{volume_in};
+ghost use Rattle.volume_tree.specs.volume_model.Volumes.{upper_of};
+ghost use Rattle.volume_tree.specs.volume_state.Rules.{first_broken};
+ghost use Rattle.volume_tree.specs.volume_state.Trees.{tree_of};
 ghost use Rattle.volume_lookup.specs.Known.{known_tree};
 
 use crate::finding::link_found;
@@ -12,8 +12,7 @@ use crate::reading::front_shown;
 use block_view::View;
 use std::alloc::Global;
 use tree_lookup::{Link, Lookup, LookupFault, Name, NameList, Node};
-use upcase_order::Upcase;
-use volume_tree::NamedVolume;
+use volume_tree::{NamedVolume, Upcase};
 
 /// A loaded volume on a view of its content, and its table of upper-case units. Its tree is known
 /// where the content is, the table is that of the volume, and the volume breaks no rule. It asks

@@ -3,12 +3,12 @@ use Rattle.std.proofs.Common.{◌≡◌, ℕ, zero, suc, ◌+◌, ◌*◌, ◌/�
 use Rattle.std.specs.Prelude.{take, drop, slice_index, replicate}
 use Rattle.std.specs.List.{range_with_len}
 use Rattle.std.specs.Prelude.{IfSome, Option, Bool}
-use Rattle.host_base.proofs.Known.{one}
-use Rattle.disk_model.specs.Content.{Content}
-use Rattle.disk_model.specs.Bytes.{zeros}
+use Rattle.volume_model.proofs.host_base.Known.{one}
+use Rattle.stream_map.specs.disk_model.Content.{Content}
+use Rattle.stream_map.specs.disk_model.Bytes.{zeros}
 use Rattle.state_model.specs.declared.stream.Stream.{Stream}
 use Rattle.state_model.specs.Streams.{stream_bytes}
-use Rattle.bit_set.specs.Words.{byte_bit, bits_of_bytes}
+use Rattle.volume_model.specs.bit_set.Words.{byte_bit, bits_of_bytes}
 
 -- a byte behind zeros, or past the end, is zero
 zeros_at : (n i : ℕ) → slice_index (replicate n 0) i ≡ 0
@@ -32,7 +32,7 @@ map_below f g end same a (suc n) le = ap (λ x. x ∷ map f (range_with_len (a +
 
 pub front_bits : (bytes : List ℕ) (k n : ℕ) → n ≤ 8 * k → bits_of_bytes (take k (drop 0 bytes ++ zeros k)) n ≡ bits_of_bytes bytes n
 unfolding bits_of_bytes zeros
-front_bits bytes k n le = map_below (byte_bit (take k (bytes ++ replicate k 0))) (byte_bit bytes) n (λ i lt. ap (λ (b : ℕ). Rattle.bit_set.specs.Words.is_one b (i % 8)) (front_at bytes k k (i / 8) (omega (arith, lt, le)))) 0 n (omega arith)
+front_bits bytes k n le = map_below (byte_bit (take k (bytes ++ replicate k 0))) (byte_bit bytes) n (λ i lt. ap (λ (b : ℕ). Rattle.volume_model.specs.bit_set.Words.is_one b (i % 8)) (front_at bytes k k (i / 8) (omega (arith, lt, le)))) 0 n (omega arith)
 
 -- the bits that were read are those of the stream
 pub bits_known : (known : Option Content) (per : ℕ) (stream : Stream) (k n : ℕ) (room : List ℕ) (bits : List Bool) → n ≤ 8 * k → IfSome known (λ c. room ≡ take k (drop 0 (stream_bytes c per stream) ++ zeros k)) → bits ≡ bits_of_bytes room n

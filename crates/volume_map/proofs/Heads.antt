@@ -5,13 +5,13 @@ use Rattle.std.specs.List.{range_with_len, filter_map, cons_option}
 use Rattle.std.specs.Prelude.{IfSome, OnOk}
 use Rattle.std.proofs.lemmas.List.FromFn.{length-map-range_with_len, get_or-map-range_with_len, map-range_with_len_more}
 use Rattle.std.proofs.lemmas.List.Elements.{filter_map-append}
-use Rattle.host_base.proofs.Known.{both, one, always}
+use Rattle.volume_model.proofs.host_base.Known.{both, one, always}
 use Rattle.state_model.specs.declared.stream.Extents.{Extents}
 use Rattle.volume_map.specs.declared.fault.MapFault.{MapFault}
-use Rattle.host_base.specs.declared.file_ref.FileRef.{FileRef}
-use Rattle.disk_model.specs.Content.{Content}
-use Rattle.bit_set.specs.Bits.{bit}
-use Rattle.file_tree.specs.Walks.{first_user_record}
+use Rattle.volume_model.specs.host_base.declared.file_ref.FileRef.{FileRef}
+use Rattle.stream_map.specs.disk_model.Content.{Content}
+use Rattle.volume_model.specs.bit_set.Bits.{bit}
+use Rattle.state_model.specs.file_tree.Walks.{first_user_record}
 use Rattle.state_model.specs.Rules.{implies, first_failing}
 use Rattle.volume_model.specs.Volumes.{Volume, count_of, record_bits, is_in_use}
 use Rattle.volume_model.specs.Owners.{keeps_record_bit}

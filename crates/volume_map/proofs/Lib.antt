@@ -1,3 +1,5 @@
+pub use Rattle.stream_map.proofs as stream_map
+pub use Rattle.volume_model.proofs.index_model
 pub mod Steps
 pub mod Numbered
 pub mod Owners

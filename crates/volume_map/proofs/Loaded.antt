@@ -3,10 +3,10 @@ use Rattle.std.proofs.Common.{◌≡◌, ℕ, zero, suc, ◌<◌, ◌==◌, ◌&
 use Rattle.std.specs.Prelude.{slice_index_or, IfSome}
 use Rattle.std.specs.List.{flat_map, range_with_len}
 use Rattle.std.proofs.lemmas.List.FromFn.{get_or-map-range_with_len, length-map-range_with_len, fill_by_all}
-use Rattle.host_base.specs.Answers.{◌>>=◌, ExplainsOrFails, Gives, GivesOrFails}
-use Rattle.host_base.proofs.Known.{both, one, always}
-use Rattle.disk_model.specs.Content.{Content}
-use Rattle.disk_model.specs.declared.block.BlockKind.TheVariants.{FileRec}
+use Rattle.volume_model.specs.host_base.Answers.{◌>>=◌, ExplainsOrFails, Gives, GivesOrFails}
+use Rattle.volume_model.proofs.host_base.Known.{both, one, always}
+use Rattle.stream_map.specs.disk_model.Content.{Content}
+use Rattle.stream_map.specs.disk_model.declared.block.BlockKind.TheVariants.{FileRec}
 use Rattle.record_model.specs.declared.attribute.Attr.{Attr}
 use Rattle.record_model.specs.ListEntries.{ReadEntries}
 use Rattle.record_model.specs.Records.{Record}

@@ -2,9 +2,9 @@
 use Rattle.std.proofs.Common.{◌≡◌, ℕ, List, length, Option, Result, Ok, Err, refl, sym, ap, ◌∙◌}
 use Rattle.std.specs.Prelude.{IfSome, IfOk}
 use Rattle.std.proofs.lemmas.List.FromFn.{length-map-range_with_len}
-use Rattle.host_base.specs.Answers.{◌>>=◌, GivesOrFails}
-use Rattle.host_base.proofs.Known.{both}
-use Rattle.disk_model.specs.Content.{Content}
+use Rattle.volume_model.specs.host_base.Answers.{◌>>=◌, GivesOrFails}
+use Rattle.volume_model.proofs.host_base.Known.{both}
+use Rattle.stream_map.specs.disk_model.Content.{Content}
 use Rattle.record_model.specs.Records.{Record}
 use Rattle.record_model.proofs.Answering.{steps_from_ok}
 use Rattle.state_model.specs.declared.geometry.Geometry.{Geometry}

@@ -7,7 +7,7 @@ use Rattle.std.proofs.lemmas.Grind.{get_or-set_at, flat_map-append}
 use Rattle.std.proofs.lemmas.List.{append-nil, length-set, get_or-set_other, length-replicate, get_or-replicate}
 use Rattle.std.proofs.lemmas.List.FromFn.{get_or-map-range_with_len, length-map-range_with_len, fill_by_all}
 use Rattle.std.specs.List.{flat_map, range_with_len}
-use Rattle.host_base.specs.FileRefs.{same_reference}
+use Rattle.volume_model.specs.host_base.FileRefs.{same_reference}
 use Rattle.record_model.specs.declared.attribute.Attr.{Attr}
 use Rattle.record_model.specs.ListEntries.{ReadEntries}
 use Rattle.record_model.specs.Records.{Record}

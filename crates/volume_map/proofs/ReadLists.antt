@@ -4,8 +4,8 @@ use Rattle.std.specs.Prelude.{IfSome}
 use Rattle.std.specs.List.{range_with_len}
 use Rattle.std.proofs.lemmas.List.{append-nil, append_assoc, map-append}
 use Rattle.std.proofs.lemmas.List.FromFn.{map-range_with_len_more}
-use Rattle.host_base.proofs.Known.{both, one, always}
-use Rattle.disk_model.specs.Content.{Content}
+use Rattle.volume_model.proofs.host_base.Known.{both, one, always}
+use Rattle.stream_map.specs.disk_model.Content.{Content}
 use Rattle.record_model.specs.declared.list_entry.ListEntry.{ListEntry}
 use Rattle.record_model.specs.ListEntries.{ReadEntries, list_entries, with_entry}
 use Rattle.stream_map.specs.declared.list_step.Step.{Step}

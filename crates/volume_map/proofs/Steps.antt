@@ -2,11 +2,11 @@
 use Rattle.std.proofs.Common.{◌≡◌, ℕ, zero, suc, ◌+◌, ◌-◌, ◌<◌, ◌≤◌, List, [], Option, Some, None, Result, Ok, Err, refl, sym, ap, ◌∙◌, arith}
 use Rattle.std.specs.Prelude.{IfSome, OnOk, option_map}
 use Rattle.std.proofs.lemmas.List.FromFn.{map-range_with_len_more}
-use Rattle.host_base.specs.Answers.{◌>>=◌, Explains, ExplainsOrFails, Gives, GivesOrFails}
-use Rattle.host_base.proofs.Known.{both, one, always}
-use Rattle.disk_model.specs.declared.block.Block.{Block}
-use Rattle.disk_model.specs.declared.block.BlockKind.{BlockKind}
-use Rattle.disk_model.specs.Content.{Content}
+use Rattle.volume_model.specs.host_base.Answers.{◌>>=◌, Explains, ExplainsOrFails, Gives, GivesOrFails}
+use Rattle.volume_model.proofs.host_base.Known.{both, one, always}
+use Rattle.stream_map.specs.disk_model.declared.block.Block.{Block}
+use Rattle.stream_map.specs.disk_model.declared.block.BlockKind.{BlockKind}
+use Rattle.stream_map.specs.disk_model.Content.{Content}
 use Rattle.record_model.specs.declared.runs.Run.{Run}
 use Rattle.record_model.specs.Records.{Record, record_at}
 use Rattle.state_model.specs.declared.geometry.Geometry.{Geometry}

@@ -1,8 +1,8 @@
 -- The causes of errors.
 use Rattle.std.specs.Prelude.{◌≡◌, ⊤, Result, Ok, Err}
-use Rattle.host_base.specs.Answers.{Cause, refused, no_memory, failed}
-use Rattle.block_view.specs.declared.fault.ViewFault.{ViewFault}
-use Rattle.block_view.specs.declared.fault.ViewFault.TheVariants as views
+use Rattle.volume_model.specs.host_base.Answers.{Cause, refused, no_memory, failed}
+use Rattle.stream_map.specs.block_view.declared.fault.ViewFault.{ViewFault}
+use Rattle.stream_map.specs.block_view.declared.fault.ViewFault.TheVariants as views
 use Rattle.state_model.specs.declared.geometry.MapRefusal.{MapRefusal}
 use Rattle.volume_map.specs.declared.fault.MapFault.{MapFault}
 use Rattle.volume_map.specs.declared.fault.MapFault.TheVariants as faults

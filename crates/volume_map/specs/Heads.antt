@@ -1,13 +1,13 @@
 -- The heads of the records of a file table, and what they say with the bits of the records.
 use Rattle.std.specs.Prelude.{ℕ, ◌-◌, ◌*◌, nat_le, Bool, false, List, length, map, Option, Some, None, if◌then◌else◌, slice_index_or}
 use Rattle.std.specs.List.{range_with_len, filter_map}
-use Rattle.host_base.specs.declared.file_ref.FileRef.{FileRef}
-use Rattle.disk_model.specs.Content.{Content}
-use Rattle.disk_model.specs.declared.block.BlockKind.TheVariants.{FileRec}
-use Rattle.bit_set.specs.Bits.{bit}
+use Rattle.volume_model.specs.host_base.declared.file_ref.FileRef.{FileRef}
+use Rattle.stream_map.specs.disk_model.Content.{Content}
+use Rattle.stream_map.specs.disk_model.declared.block.BlockKind.TheVariants.{FileRec}
+use Rattle.volume_model.specs.bit_set.Bits.{bit}
 use Rattle.state_model.specs.declared.stream.Extents.{Extents}
 use Rattle.state_model.specs.Streams.{block_at}
-use Rattle.file_tree.specs.Walks.{first_user_record}
+use Rattle.state_model.specs.file_tree.Walks.{first_user_record}
 use Rattle.state_model.specs.Rules.{implies}
 use Rattle.state_model.specs.Loads.{is_used}
 use Rattle.volume_model.specs.Volumes.{Volume, block_bytes, count_of, record_bytes}

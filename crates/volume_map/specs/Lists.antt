@@ -1,8 +1,8 @@
 -- The attribute lists of the first so many files, and what they name.
 use Rattle.std.specs.Prelude.{◌≡◌, ℕ, Bool, true, false, not, ◌&&◌, ◌||◌, ◌==◌, if◌then◌else◌, List, [], ◌∷◌, ◌++◌, map, filter, drop, set, slice_index_or, length, Option, Some, None, Result, Ok}
 use Rattle.std.specs.List.{flat_map, list_any, range_with_len}
-use Rattle.disk_model.specs.Content.{Content}
-use Rattle.disk_model.specs.declared.block.BlockKind.TheVariants.{FileRec}
+use Rattle.stream_map.specs.disk_model.Content.{Content}
+use Rattle.stream_map.specs.disk_model.declared.block.BlockKind.TheVariants.{FileRec}
 use Rattle.record_model.specs.declared.attribute.Attr.{Attr}
 use Rattle.stream_map.specs.declared.list_step.Step.{Step}
 use Rattle.stream_map.specs.declared.list_step.Step.TheVariants.{End, Fault, Entry}
@@ -12,8 +12,8 @@ use Rattle.record_model.specs.Records.{Record}
 use Rattle.state_model.specs.Files.{Table, file_at, reference}
 use Rattle.state_model.specs.Streams.{has_cut_block}
 use Rattle.state_model.specs.Loads.{no_entries, entries_of, holds_all, named_attrs, is_named_in, cuts_index, or_rule, table_in, unless, first_of, rule_refusal}
-use Rattle.host_base.specs.Answers.{◌>>=◌}
-use Rattle.host_base.specs.FileRefs.{same_reference}
+use Rattle.volume_model.specs.host_base.Answers.{◌>>=◌}
+use Rattle.volume_model.specs.host_base.FileRefs.{same_reference}
 use Rattle.state_model.specs.declared.geometry.MapRefusal.{MapRefusal}
 use Rattle.state_model.specs.declared.stream.Extents.{Extents}
 use Rattle.volume_map.specs.declared.list_read.ListRead.{ListRead}

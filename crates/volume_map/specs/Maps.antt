@@ -1,6 +1,6 @@
 -- A loaded volume, as definitions see it.
 use Rattle.std.specs.Prelude.{◌≡◌}
-use Rattle.disk_model.specs.Content.{Content}
+use Rattle.stream_map.specs.disk_model.Content.{Content}
 use Rattle.volume_model.specs.Volumes.{Volume, record_bits, cluster_bits}
 use Rattle.volume_map.specs.declared.map.VolumeMap.{VolumeMap}
 use Rattle.volume_map.specs.Heads.{heads_of}

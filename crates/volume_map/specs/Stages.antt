@@ -1,6 +1,6 @@
 -- What each stage of a load has for the first so many records.
 use Rattle.std.specs.Prelude.{◌≡◌, ℕ, List, [], ◌∷◌, ◌++◌, map, Option, None, Result, Ok, Err}
-use Rattle.host_base.specs.Answers.{ExplainsOrFails}
+use Rattle.volume_model.specs.host_base.Answers.{ExplainsOrFails}
 use Rattle.std.specs.List.{range_with_len}
 use Rattle.state_model.specs.Loads.{Slot, broken_rule, torn_refusal, first_of, records_of, used_record, unless}
 use Rattle.volume_map.specs.declared.fault.MapFault.{MapFault}

@@ -1,24 +1,22 @@
 //! The bits of bitmaps.
 ghost use Rattle.std.specs.Prelude.{◌≡◌, ◌*◌, ◌≤◌, [], length, IfOk, IfSome};
-ghost use Rattle.bit_set.specs.Words.{bits_of_bytes};
+ghost use Rattle.volume_model.specs.bit_set.Words.{bits_of_bytes};
 ghost use Rattle.record_model.specs.Constants.{data_type, bitmap_type};
 ghost use Rattle.state_model.specs.Files.{file_at};
 ghost use Rattle.state_model.specs.Loads.{table_in};
 ghost use Rattle.state_model.specs.Streams.{stream_bytes};
 ghost use Rattle.volume_map.specs.Errors.{map_cause, NeverRefused};
-ghost use Rattle.block_view.specs.Views.{AsksView};
+ghost use Rattle.stream_map.specs.block_view.Views.{AsksView};
 ghost use Rattle.volume_model.specs.Volumes.{file_stream, bytes_or, table_file, bitmap_file};
 
 use crate::fault::MapFault;
 use crate::streams::{file_stream, stream_or_empty};
-use bit_set::BitSet;
-use block_view::View;
-use disk_model::Body;
 use file_record::FileRec;
 use record_model::{BITMAP_TYPE, DATA};
 use state_model::{ClusterSize, Stream};
 use std::alloc::{AllocError, Global};
-use stream_map::front;
+use stream_map::{Body, View, front};
+use volume_model::BitSet;
 
 // The numbers of the files of the file table and of the clusters' bitmap.
 const TABLE_FILE: u64 = 0;

@@ -8,9 +8,9 @@ ghost use Rattle.volume_map.specs.Lists.{read_of, read_at, named_of, named_at, o
 use crate::holding::names_attr;
 use crate::list_read::ListRead;
 use file_record::{FileRec, file_at, record_at, reference};
-use host_base::is_same_reference;
 use record_model::{Attr, AttrList, ListEntry, OwnForm};
 use std::alloc::{AllocError, Global};
+use volume_model::is_same_reference;
 
 // The file, other than itself, that the record of that number refers to.
 #[tactic(auto, unfolding(crate::specs::Lists::owner_at))]

@@ -1,8 +1,8 @@
-use block_view::ViewFault;
-use host_base::Memory;
 use state_model::MapRefusal;
 use std::alloc::AllocError;
+use stream_map::ViewFault;
 use thiserror::Error;
+use volume_model::Memory;
 
 /// Why the files of a volume have no answer.
 #[derive(Clone, Copy, Debug, PartialEq, Eq, Error)]

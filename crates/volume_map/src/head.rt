@@ -2,8 +2,8 @@
 ghost use Rattle.std.specs.Prelude.{◌≡◌, length};
 ghost use Rattle.volume_map.specs.Heads.{head_of, no_head};
 
-use disk_model::u16_at;
 use record_model::RecordFlags;
+use stream_map::u16_at;
 
 /// What the head of a file record says (Linux-NTFS documentation, "FILE Record").
 #[derive(Clone, Copy, Debug, PartialEq, Eq)]

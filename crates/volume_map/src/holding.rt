@@ -7,10 +7,10 @@ ghost use Rattle.volume_map.specs.Lists.{read_of, breaks_by, ten_at, tens_of};
 
 use crate::list_read::ListRead;
 use file_record::{FileRec, file_at, record_at, reference};
-use host_base::is_same_reference;
 use record_model::{Attr, ListEntry};
 use std::alloc::{AllocError, Global};
 use stream_map::first_vcn;
+use volume_model::is_same_reference;
 
 /// Whether the entry names the attribute by type, name, id and first VCN.
 pub fn names_attr(entry: &ListEntry, attr: &Attr) -> bool

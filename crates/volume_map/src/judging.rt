@@ -1,6 +1,6 @@
 //! The least rule that each record breaks.
 ghost use Rattle.std.specs.Prelude.{◌≡◌, ◌==◌, ◌<◌, ℕ, length, IfOk, slice_index_or, Some, None, false};
-ghost use Rattle.host_base.specs.Answers.{Gives};
+ghost use Rattle.volume_model.specs.host_base.Answers.{Gives};
 ghost use Rattle.state_model.specs.Streams.{has_cut_block, stream_of};
 ghost use Rattle.state_model.specs.Files.{is_directory_record};
 ghost use Rattle.state_model.specs.Loads.{cuts_index, has_cut_index_block, or_rule, rule_refusal, first_of, unless};
@@ -8,13 +8,12 @@ ghost use Rattle.volume_map.specs.Errors.{map_cause};
 ghost use Rattle.volume_map.specs.Lists.{rule_by};
 
 use crate::fault::MapFault;
-use disk_model::BlockKind;
 use file_record::FileRec;
-use host_base::Memory;
 use record_model::{INDEX_ALLOCATION, NAMES_INDEX, RecordFlags};
 use state_model::{ClusterSize, MapRefusal, Stream};
 use std::alloc::Global;
-use stream_map::{has_cut_block, stream_of};
+use stream_map::{BlockKind, has_cut_block, stream_of};
+use volume_model::Memory;
 
 fn has_cut_index_block(per: ClusterSize, stream: Option<Stream>) -> bool
     ensures { result ≡ has_cut_index_block per stream }

@@ -29,7 +29,7 @@ mod table;
 mod walk;
 
 pub use fault::MapFault;
-pub use file_record::{is_base_record, reference};
+pub use file_record::{FileRec, FixedValue, file_at, is_base_record, reference};
 pub use flags::stream_flags;
 pub use head::Head;
 pub use judging::{cuts_index, or_rule};
@@ -37,9 +37,18 @@ pub use loading::{files_in, load};
 pub use map::VolumeMap;
 pub use mapping::load_volume;
 pub use record::{pairs_fit, whole_record};
+pub use record_model::{
+    ATTRIBUTE_LIST, Attr, BITMAP_TYPE, DATA, JournalMax, OBJECT_ID, OwnForm, REPARSE_POINT, Run,
+    VOLUME_INFORMATION, VolumeInfo,
+};
 pub use slot::{Slot, is_used};
 pub use spare::{first_unmarked, spare_numbers};
-pub use state_model::{Geometry, MapRefusal};
+pub use state_model::{ClusterSize, Extents, Geometry, Link, MapRefusal, Stream};
+pub use stream_map::{
+    Overlay, View, ViewFault, attributes_of, block_at, fill, first_vcn, front, has_cut_block,
+    is_hole, real_size, stream_of,
+};
 pub use streams::{file_stream, stream_or_empty};
 pub use table::{boot_block, boot_record, has_type, table_of};
+pub use volume_model::Upcase;
 pub use walk::{Found, table_found};

@@ -8,18 +8,16 @@ ghost use Rattle.state_model.specs.Streams.{stream_bytes, real_size};
 ghost use Rattle.state_model.specs.Loads.{attr_name, list_stream, list_entries_in, entries_of, table_in};
 ghost use Rattle.volume_map.specs.Errors.{map_cause, NeverRefused};
 ghost use Rattle.volume_map.specs.Lists.{read_of, list_at, lists_of, Takes, GoesOn};
-ghost use Rattle.block_view.specs.Views.{AsksView};
+ghost use Rattle.stream_map.specs.block_view.Views.{AsksView};
 
 use crate::fault::MapFault;
 use crate::list_read::ListRead;
-use block_view::View;
-use disk_model::Body;
 use file_record::{FileRec, file_at};
-use host_base::Memory;
 use record_model::{ATTRIBUTE_LIST, Attr};
 use state_model::{ClusterSize, Stream};
 use std::alloc::{AllocError, Global};
-use stream_map::{Step, next_entry, stream_of};
+use stream_map::{Body, Step, View, next_entry, stream_of};
+use volume_model::Memory;
 
 // The first attribute that is a list.
 fn list_attr(attrs: &[Attr]) -> Option<&Attr>

@@ -1,13 +1,13 @@
 //! The files of a volume.
 ghost use Rattle.std.specs.Prelude.{◌≡◌, ◌*◌, ◌^◌, ◌<◌, ◌≤◌, map, length, IfOk, IfSome};
-ghost use Rattle.host_base.specs.Answers.{Gives, GivesOrFails};
-ghost use Rattle.disk_model.specs.declared.block.BlockKind.TheVariants.{FileRec as file_kind};
+ghost use Rattle.volume_model.specs.host_base.Answers.{Gives, GivesOrFails};
+ghost use Rattle.stream_map.specs.disk_model.declared.block.BlockKind.TheVariants.{FileRec as file_kind};
 ghost use Rattle.state_model.specs.Streams.{has_cut_block};
 ghost use Rattle.state_model.specs.Loads.{table_in, most_records, record_count, files_in, loaded};
 ghost use Rattle.volume_map.specs.Errors.{map_cause};
 ghost use Rattle.volume_map.specs.Heads.{table_heads};
 ghost use Rattle.volume_map.specs.Lists.{read_of, judged_files};
-ghost use Rattle.block_view.specs.Views.{AsksView};
+ghost use Rattle.stream_map.specs.block_view.Views.{AsksView};
 
 use crate::extras::extras_of;
 use crate::fault::MapFault;
@@ -19,12 +19,10 @@ use crate::list_read::ListRead;
 use crate::lists::read_lists;
 use crate::table::table_of;
 use crate::walk::{Walk, walk_table};
-use block_view::View;
-use disk_model::{BlockKind, Body};
 use file_record::FileRec;
 use state_model::{ClusterSize, Extents, Geometry};
 use std::alloc::Global;
-use stream_map::has_cut_block;
+use stream_map::{BlockKind, Body, View, has_cut_block};
 
 // Makes the records the files, by the rules of 1 to 8 that the records break and the lists of
 // files; refuses the first record that breaks a rule.

@@ -2,9 +2,9 @@
 ghost use Rattle.std.specs.Prelude.{◌*◌, ◌^◌, ◌<◌};
 
 use crate::head::Head;
-use bit_set::BitSet;
 use file_record::FileRec;
 use state_model::{ClusterSize, Extents};
+use volume_model::BitSet;
 
 /// A volume as its file table is loaded, with what a check and a change ask of all its records and
 /// clusters.

@@ -1,20 +1,19 @@
 //! The loading of a volume.
 ghost use Rattle.std.specs.Prelude.{◌≡◌, ◌*◌, ◌^◌, ◌<◌, length, IfOk, IfSome};
-ghost use Rattle.host_base.specs.Answers.{GivesOrFails};
+ghost use Rattle.volume_model.specs.host_base.Answers.{GivesOrFails};
 ghost use Rattle.volume_model.specs.Volumes.{volume_of, record_bits, cluster_bits};
 ghost use Rattle.volume_map.specs.Errors.{map_cause, NeverRefused};
 ghost use Rattle.volume_map.specs.Maps.{volume_in, IsMapOf};
-ghost use Rattle.block_view.specs.Views.{AsksView};
+ghost use Rattle.stream_map.specs.block_view.Views.{AsksView};
 
 use crate::bits::{cluster_bits, record_bits};
 use crate::fault::MapFault;
 use crate::loading::{TableRead, read_table};
 use crate::map::VolumeMap;
 use crate::table::table_of;
-use block_view::View;
-use disk_model::Body;
 use state_model::{Extents, Geometry};
 use std::alloc::Global;
+use stream_map::{Body, View};
 
 // The map of a volume whose file table was read: with the bits of its bitmaps.
 #[tactic(auto, unfolding(volume_model::specs::Volumes::record_bits, volume_model::specs::Volumes::cluster_bits))]

@@ -1,15 +1,15 @@
 //! One record in use: the rules 1 to 8.
 ghost use Rattle.std.specs.Prelude.{◌≡◌, ◌==◌, ◌+◌, ◌%◌, ◌^◌, length, IfOk};
 ghost use Rattle.std.specs.List.{list_all};
-ghost use Rattle.host_base.specs.Answers.{Gives};
+ghost use Rattle.volume_model.specs.host_base.Answers.{Gives};
 ghost use Rattle.record_model.specs.Pairs.{runs_of};
 ghost use Rattle.state_model.specs.Loads.{total_clusters, span, has_fitting_pairs, form_fits, has_all_pairs, whole_record};
 ghost use Rattle.file_record.specs.Faults.{rec_cause};
 
 use file_record::{FileRec, RecFault, Shaped};
-use host_base::Memory;
 use record_model::{Attr, OwnForm, PairsFault, Run, Sizes};
 use std::alloc::Global;
+use volume_model::Memory;
 
 // Whether the runs are those from the first VCN to the last one, modulo 2^64.
 fn do_span(sizes: Sizes, runs: &[Run]) -> bool
@@ -27,7 +27,7 @@ fn do_span(sizes: Sizes, runs: &[Run]) -> bool
 pub fn pairs_fit(alloc: Global, sizes: Sizes, pairs: &[u8]) -> Result<bool, Memory>
     ensures { IfOk result (λ fits. fits ≡ span sizes (runs_of sizes.first pairs.now)) }
 {
-    match mapping_pairs::read(alloc, pairs, sizes.first) {
+    match stream_map::read(alloc, pairs, sizes.first) {
         Ok(runs) => Ok(do_span(sizes, runs.as_slice())),
         Err(PairsFault::Memory) => Err(Memory),
         Err(_) => Ok(false),

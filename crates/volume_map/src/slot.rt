@@ -1,17 +1,17 @@
 //! What a file record is, by its body.
 ghost use Rattle.std.specs.Prelude.{◌≡◌, ◌*◌, length, IfOk};
-ghost use Rattle.disk_model.specs.declared.block.BlockKind.TheVariants.{FileRec as file_kind};
-ghost use Rattle.disk_model.specs.Content.{is_signed};
+ghost use Rattle.stream_map.specs.disk_model.declared.block.BlockKind.TheVariants.{FileRec as file_kind};
+ghost use Rattle.stream_map.specs.disk_model.Content.{is_signed};
 ghost use Rattle.record_model.specs.Records.{record_at};
 ghost use Rattle.state_model.specs.Loads.{slot_by, slot_in, slot_of, is_used, whole_record};
 ghost use Rattle.volume_map.specs.Slots.{seen, IsRead};
 
 use crate::record::whole_record;
-use disk_model::{Body, u16_at};
 use file_record::{FileRec, RecFault};
-use host_base::Memory;
 use record_model::RecordFlags;
 use std::alloc::Global;
+use stream_map::{Body, u16_at};
+use volume_model::Memory;
 
 /// A file record as it stands on a volume.
 #[derive(Debug, Drop)]

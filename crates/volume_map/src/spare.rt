@@ -1,7 +1,7 @@
 //! Records by their heads and their bits.
 ghost use Rattle.std.specs.Prelude.{◌≡◌, ◌++◌, [], length, IfOk, OnOk};
 ghost use Rattle.std.specs.List.{cons_option};
-ghost use Rattle.disk_model.specs.Content.{Content as the_content};
+ghost use Rattle.stream_map.specs.disk_model.Content.{Content as the_content};
 ghost use Rattle.state_model.specs.Rules.{first_failing};
 ghost use Rattle.volume_model.specs.Volumes.{Volume as the_volume, count_of, record_bits};
 ghost use Rattle.volume_model.specs.Owners.{keeps_record_bit};
@@ -9,10 +9,9 @@ ghost use Rattle.volume_model.specs.Nodes.{spare_numbers};
 ghost use Rattle.volume_map.specs.Heads.{heads_of, keeps_head, spare_of, spares_of};
 
 use crate::head::Head;
-use bit_set::BitSet;
-use file_tree::FileRefList;
-use host_base::FileRef;
+use state_model::FileRefList;
 use std::alloc::{AllocError, Global};
+use volume_model::{BitSet, FileRef};
 
 // The first number of a user's file.
 const FIRST_USER_RECORD: usize = 24;

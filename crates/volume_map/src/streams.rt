@@ -1,16 +1,16 @@
 //! Streams of the volume's own files.
 ghost use Rattle.std.specs.Prelude.{◌≡◌, ℕ, [], IfOk, IfSome};
-ghost use Rattle.disk_model.specs.Content.{Content as the_content};
+ghost use Rattle.stream_map.specs.disk_model.Content.{Content as the_content};
 ghost use Rattle.state_model.specs.Files.{file_at};
 ghost use Rattle.state_model.specs.Loads.{table_in};
 ghost use Rattle.state_model.specs.Streams.{stream_bytes};
 ghost use Rattle.volume_model.specs.Volumes.{file_stream, bytes_or};
 
 use file_record::{FileRec, file_at};
-use host_base::{Bytes, Memory};
 use state_model::Stream;
 use std::alloc::Global;
 use stream_map::stream_of;
+use volume_model::{Bytes, Memory};
 
 /// The unnamed stream of this type of the file with this number, if it has one; `files` are the
 /// files of a volume by number. The error is want of memory. It takes time and memory linear in the

@@ -1,24 +1,22 @@
 //! The file table, by record 0.
 ghost use Rattle.std.specs.Prelude.{◌≡◌, ◌+◌, ◌*◌, ◌^◌, ◌<◌, ◌≤◌, Ok, IfOk, IfSome, OnOk, length};
-ghost use Rattle.host_base.specs.Answers.{Gives, GivesOrFails};
+ghost use Rattle.volume_model.specs.host_base.Answers.{Gives, GivesOrFails};
 ghost use Rattle.record_model.specs.Records.{record_at};
 ghost use Rattle.state_model.specs.Files.{has_type};
 ghost use Rattle.state_model.specs.Loads.{boot_block, judged, most_records, extents_or, record_count, table_extents, extents_in, table_of, slot_by, slot_of};
 ghost use Rattle.volume_map.specs.Errors.{map_cause};
 ghost use Rattle.volume_map.specs.Slots.{seen};
-ghost use Rattle.block_view.specs.Views.{AsksView};
+ghost use Rattle.stream_map.specs.block_view.Views.{AsksView};
 
 use crate::fault::MapFault;
 use crate::record::has_all_pairs;
 use crate::slot::{Slot, own_slot_of, slot_of};
-use block_view::View;
-use disk_model::{Block, BlockKind, Body};
 use file_record::FileRec;
-use host_base::Memory;
 use record_model::{ATTRIBUTE_LIST, DATA};
 use state_model::{Extents, Geometry, MapRefusal, Stream};
 use std::alloc::Global;
-use stream_map::{no_extents, stream_of};
+use stream_map::{Block, BlockKind, Body, View, no_extents, stream_of};
+use volume_model::Memory;
 
 const MOST_RECORDS: u64 = 1_048_576;
 

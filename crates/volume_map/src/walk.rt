@@ -1,22 +1,20 @@
 //! One walk over the file table.
 ghost use Rattle.std.specs.Prelude.{◌≡◌, ◌+◌, ◌*◌, ◌^◌, ◌<◌, ◌≤◌, ◌++◌, ◌∷◌, [], Ok, IfOk, IfSome, OnOk, length, ℕ};
-ghost use Rattle.host_base.specs.Answers.{Gives, GivesOrFails};
+ghost use Rattle.volume_model.specs.host_base.Answers.{Gives, GivesOrFails};
 ghost use Rattle.state_model.specs.Loads.{Free, most_records, record_count, slot_of, table_slot, torn_refusal, unless, first_of};
 ghost use Rattle.volume_map.specs.Errors.{map_cause};
 ghost use Rattle.volume_map.specs.Heads.{head_of, no_head, table_head, table_heads};
 ghost use Rattle.volume_map.specs.Slots.{seen};
 ghost use Rattle.volume_map.specs.Stages.{WalkedBelow, WalksOrFails, WalksAll, Notes};
-ghost use Rattle.block_view.specs.Views.{AsksView};
+ghost use Rattle.stream_map.specs.block_view.Views.{AsksView};
 
 use crate::fault::MapFault;
 use crate::head::{Head, head_of, no_head};
 use crate::slot::{Slot, slot_of};
-use block_view::View;
-use disk_model::{Block, BlockKind, Body};
 use file_record::FileRec;
 use state_model::{ClusterSize, Extents, MapRefusal};
 use std::alloc::{AllocError, Global};
-use stream_map::block_at;
+use stream_map::{Block, BlockKind, Body, View, block_at};
 
 /// The first records of a table, by number: each one that is in use and breaks none of the rules 1
 /// to 8, the least of these rules that one in use breaks, and the head of each.

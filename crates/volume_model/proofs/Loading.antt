@@ -1,12 +1,12 @@
 -- The files of a volume are those that a scan loads.
 use Rattle.std.proofs.Common.{◌≡◌, ℕ, List, Option, Result, Ok, Err, refl}
-use Rattle.host_base.specs.Answers.{◌>>=◌}
-use Rattle.disk_model.specs.Content.{Content}
-use Rattle.record_model.specs.Records.{Record}
-use Rattle.state_model.specs.declared.geometry.Geometry.{Geometry}
-use Rattle.state_model.specs.declared.geometry.MapRefusal.{MapRefusal}
-use Rattle.state_model.specs.declared.stream.Extents.{Extents}
-use Rattle.state_model.specs.Loads.{table_of, files_in, loaded}
+use Rattle.bit_set.specs.host_base.Answers.{◌>>=◌}
+use Rattle.upcase_order.specs.disk_model.Content.{Content}
+use Rattle.upcase_order.specs.record_model.Records.{Record}
+use Rattle.upcase_order.specs.state_model.declared.geometry.Geometry.{Geometry}
+use Rattle.upcase_order.specs.state_model.declared.geometry.MapRefusal.{MapRefusal}
+use Rattle.upcase_order.specs.state_model.declared.stream.Extents.{Extents}
+use Rattle.upcase_order.specs.state_model.Loads.{table_of, files_in, loaded}
 use Rattle.volume_model.specs.Volumes.{Volume, volume_of}
 
 -- a volume with these files

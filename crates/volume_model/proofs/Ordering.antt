@@ -7,9 +7,9 @@ use Rattle.std.proofs.lemmas.List.{append-nil}
 use Rattle.std.proofs.lemmas.List.Elements.{All-nil, All-cons, All-head, All-tail, All-weaker, All-contains, All-contains_itself}
 use Rattle.std.proofs.lemmas.List.Sorted.{IsPermutation-refl, IsPermutation-sym, IsPermutation-trans, IsPermutation-cons, IsPermutation-middle, IsPermutation-append_left, All-permutation, sum_by-IsPermutation}
 use Rattle.std.proofs.lemmas.List.Sums.{sum_by-cons}
-use Rattle.record_model.specs.declared.attribute.Attr.{Attr}
-use Rattle.state_model.specs.Streams.{first_vcn, is_attribute_of, with_attribute, sorted_into, attributes_of, attribute_runs, joined, stream_of}
-use Rattle.state_model.specs.Loads.{total_clusters}
+use Rattle.upcase_order.specs.record_model.declared.attribute.Attr.{Attr}
+use Rattle.upcase_order.specs.state_model.Streams.{first_vcn, is_attribute_of, with_attribute, sorted_into, attributes_of, attribute_runs, joined, stream_of}
+use Rattle.upcase_order.specs.state_model.Loads.{total_clusters}
 use Rattle.volume_model.specs.Sizes.{follow, are_joined}
 use Rattle.std.specs.Cmp as tests
 

@@ -1,26 +1,26 @@
 -- The index of a directory on a volume: where its blocks lie, the names that it holds, and what they have to be.
 use Rattle.std.specs.Prelude.{ℕ, ◌+◌, ◌*◌, ◌/◌, ◌^◌, Bool, false, List, [], ◌∷◌, map, find, min, max, nat_le, if◌then◌else◌, Option, Some, None, Result, Ok, Err}
 use Rattle.std.specs.List.{range_with_len}
-use Rattle.host_base.specs.declared.file_ref.FileRef.{FileRef}
-use Rattle.disk_model.specs.declared.block.Block.{Block}
-use Rattle.disk_model.specs.declared.block.BlockKind.TheVariants.{Index}
-use Rattle.disk_model.specs.Content.{Content}
-use Rattle.record_model.specs.declared.attribute.OwnForm.{OwnForm}
-use Rattle.record_model.specs.declared.attribute.OwnForm.TheVariants.{Resident, Mapped}
-use Rattle.record_model.specs.declared.attribute.Attr.{Attr}
-use Rattle.record_model.specs.declared.runs.Run.{Run}
-use Rattle.record_model.specs.Records.{Record}
-use Rattle.record_model.specs.Constants.{names_index, index_allocation}
-use Rattle.file_tree.specs.declared.link.Link.{Link}
-use Rattle.index_model.specs.Indexes.{Place}
-use Rattle.index_model.specs.Walks.{Broken, walk_of}
-use Rattle.state_model.specs.declared.stream.Extents.{Extents}
-use Rattle.state_model.specs.declared.stream.Stream.{Stream}
-use Rattle.state_model.specs.declared.stream.Stream.TheVariants.{Held, Placed}
-use Rattle.state_model.specs.Files.{Table, reference, is_directory_record}
-use Rattle.state_model.specs.Indexes.{is_names_root}
-use Rattle.state_model.specs.Rules.{implies, at_file, is_index}
-use Rattle.state_model.specs.Streams.{stream_of, block_at}
+use Rattle.bit_set.specs.host_base.declared.file_ref.FileRef.{FileRef}
+use Rattle.upcase_order.specs.disk_model.declared.block.Block.{Block}
+use Rattle.upcase_order.specs.disk_model.declared.block.BlockKind.TheVariants.{Index}
+use Rattle.upcase_order.specs.disk_model.Content.{Content}
+use Rattle.upcase_order.specs.record_model.declared.attribute.OwnForm.{OwnForm}
+use Rattle.upcase_order.specs.record_model.declared.attribute.OwnForm.TheVariants.{Resident, Mapped}
+use Rattle.upcase_order.specs.record_model.declared.attribute.Attr.{Attr}
+use Rattle.upcase_order.specs.record_model.declared.runs.Run.{Run}
+use Rattle.upcase_order.specs.record_model.Records.{Record}
+use Rattle.upcase_order.specs.record_model.Constants.{names_index, index_allocation}
+use Rattle.upcase_order.specs.file_tree.declared.link.Link.{Link}
+use Rattle.upcase_order.specs.index_model.Indexes.{Place}
+use Rattle.upcase_order.specs.index_model.Walks.{Broken, walk_of}
+use Rattle.upcase_order.specs.state_model.declared.stream.Extents.{Extents}
+use Rattle.upcase_order.specs.state_model.declared.stream.Stream.{Stream}
+use Rattle.upcase_order.specs.state_model.declared.stream.Stream.TheVariants.{Held, Placed}
+use Rattle.upcase_order.specs.state_model.Files.{Table, reference, is_directory_record}
+use Rattle.upcase_order.specs.state_model.Indexes.{is_names_root}
+use Rattle.upcase_order.specs.state_model.Rules.{implies, at_file, is_index}
+use Rattle.upcase_order.specs.state_model.Streams.{stream_of, block_at}
 use Rattle.volume_model.specs.Volumes.{Volume, files_by_number, count_of, file_in}
 
 -- ---- where the blocks lie

@@ -1,11 +1,11 @@
 -- The laws of volumes.
 use Rattle.std.specs.Prelude.{◌≡◌, ℕ, List, true, Ok, IsPermutation}
-use Rattle.host_base.specs.Answers.{◌>>=◌}
-use Rattle.disk_model.specs.Content.{Content}
-use Rattle.record_model.specs.declared.attribute.Attr.{Attr}
-use Rattle.state_model.specs.declared.geometry.Geometry.{Geometry}
-use Rattle.state_model.specs.Loads.{loaded}
-use Rattle.state_model.specs.Streams.{attributes_of, stream_of}
+use Rattle.bit_set.specs.host_base.Answers.{◌>>=◌}
+use Rattle.upcase_order.specs.disk_model.Content.{Content}
+use Rattle.upcase_order.specs.record_model.declared.attribute.Attr.{Attr}
+use Rattle.upcase_order.specs.state_model.declared.geometry.Geometry.{Geometry}
+use Rattle.upcase_order.specs.state_model.Loads.{loaded}
+use Rattle.upcase_order.specs.state_model.Streams.{attributes_of, stream_of}
 use Rattle.volume_model.specs.Sizes.{are_joined}
 use Rattle.volume_model.specs.Volumes.{volume_of}
 

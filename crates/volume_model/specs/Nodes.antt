@@ -2,26 +2,26 @@
 use Rattle.std.specs.Prelude.{ℕ, ◌-◌, Bool, true, false, not, ◌&&◌, ◌||◌, ◌==◌, if◌then◌else◌, List, [], ◌∷◌, length, count_by, Option, Some, None}
 use Rattle.std.specs.List.{range_with_len, filter_map}
 use Rattle.std.specs.Option.{option_or}
-use Rattle.host_base.specs.declared.file_ref.FileRef.{FileRef}
-use Rattle.disk_model.specs.declared.block.BlockKind.TheVariants.{FileRec}
-use Rattle.disk_model.specs.Numbers.{field}
-use Rattle.disk_model.specs.Content.{Content, is_signed}
-use Rattle.record_model.specs.declared.attribute.Attr.{Attr}
-use Rattle.record_model.specs.Records.{Record}
-use Rattle.record_model.specs.Constants.{attribute_list, data_type, object_id, reparse_point}
-use Rattle.file_tree.specs.declared.node.Kind.{Kind}
-use Rattle.file_tree.specs.declared.node.Kind.TheVariants.{Directory, File, Fixed, Opaque, System}
-use Rattle.file_tree.specs.declared.node.Why.{Why}
-use Rattle.file_tree.specs.declared.node.Why.TheVariants.{Sparse}
-use Rattle.file_tree.specs.declared.node.Node.{Node}
+use Rattle.bit_set.specs.host_base.declared.file_ref.FileRef.{FileRef}
+use Rattle.upcase_order.specs.disk_model.declared.block.BlockKind.TheVariants.{FileRec}
+use Rattle.upcase_order.specs.disk_model.Numbers.{field}
+use Rattle.upcase_order.specs.disk_model.Content.{Content, is_signed}
+use Rattle.upcase_order.specs.record_model.declared.attribute.Attr.{Attr}
+use Rattle.upcase_order.specs.record_model.Records.{Record}
+use Rattle.upcase_order.specs.record_model.Constants.{attribute_list, data_type, object_id, reparse_point}
+use Rattle.upcase_order.specs.file_tree.declared.node.Kind.{Kind}
+use Rattle.upcase_order.specs.file_tree.declared.node.Kind.TheVariants.{Directory, File, Fixed, Opaque, System}
+use Rattle.upcase_order.specs.file_tree.declared.node.Why.{Why}
+use Rattle.upcase_order.specs.file_tree.declared.node.Why.TheVariants.{Sparse}
+use Rattle.upcase_order.specs.file_tree.declared.node.Node.{Node}
 use Rattle.bit_set.specs.Bits.{bit}
-use Rattle.state_model.specs.declared.stream.Stream.{Stream}
-use Rattle.state_model.specs.declared.stream.Stream.TheVariants.{Held, Placed}
-use Rattle.state_model.specs.Files.{record_links, is_directory_record, has_type, info_of, is_encrypted, is_compressed, is_sparse, why_by}
-use Rattle.file_tree.specs.Walks.{first_user_record}
-use Rattle.state_model.specs.Trees.{is_system, is_nameless}
-use Rattle.state_model.specs.Streams.{attributes_of}
-use Rattle.state_model.specs.Loads.{total_clusters, data_stream}
+use Rattle.upcase_order.specs.state_model.declared.stream.Stream.{Stream}
+use Rattle.upcase_order.specs.state_model.declared.stream.Stream.TheVariants.{Held, Placed}
+use Rattle.upcase_order.specs.state_model.Files.{record_links, is_directory_record, has_type, info_of, is_encrypted, is_compressed, is_sparse, why_by}
+use Rattle.upcase_order.specs.file_tree.Walks.{first_user_record}
+use Rattle.upcase_order.specs.state_model.Trees.{is_system, is_nameless}
+use Rattle.upcase_order.specs.state_model.Streams.{attributes_of}
+use Rattle.upcase_order.specs.state_model.Loads.{total_clusters, data_stream}
 use Rattle.volume_model.specs.Volumes.{Volume, record_bytes, files_by_number, count_of, file_in, cluster_bits, record_bits, bytes_or, size_or}
 use Rattle.volume_model.specs.Sizes.{has_hole}
 

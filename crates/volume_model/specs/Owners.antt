@@ -1,12 +1,12 @@
 -- The clusters that streams own.
 use Rattle.std.specs.Prelude.{ℕ, ◌+◌, Bool, false, ◌&&◌, nat_le, nat_lt, List, [], count_by, Option, Some, None}
 use Rattle.std.specs.List.{flat_map}
-use Rattle.disk_model.specs.Content.{Content}
-use Rattle.record_model.specs.declared.runs.Run.{Run}
-use Rattle.record_model.specs.Records.{Record}
+use Rattle.upcase_order.specs.disk_model.Content.{Content}
+use Rattle.upcase_order.specs.record_model.declared.runs.Run.{Run}
+use Rattle.upcase_order.specs.record_model.Records.{Record}
 use Rattle.bit_set.specs.Bits.{bit}
-use Rattle.state_model.specs.Rules.{implies}
-use Rattle.state_model.specs.Streams.{attribute_runs}
+use Rattle.upcase_order.specs.state_model.Rules.{implies}
+use Rattle.upcase_order.specs.state_model.Streams.{attribute_runs}
 use Rattle.volume_model.specs.Volumes.{Volume, record_bits, is_in_use}
 
 -- the runs of a file's attributes

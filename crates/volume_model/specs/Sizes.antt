@@ -1,21 +1,21 @@
 -- What the streams of a file have to keep: their attributes, their places and sizes, and the blocks that must not be torn.
 use Rattle.std.specs.Prelude.{ℕ, ◌+◌, ◌-◌, ◌*◌, ◌/◌, Bool, true, false, not, ◌&&◌, ◌||◌, ◌==◌, nat_le, nat_lt, is_some, List, [], ◌∷◌, Option, Some, None}
 use Rattle.std.specs.List.{list_all, list_any, range_with_len}
-use Rattle.disk_model.specs.declared.block.Block.{Block}
-use Rattle.disk_model.specs.declared.block.BlockKind.{BlockKind}
-use Rattle.disk_model.specs.declared.block.BlockKind.TheVariants.{FileRec, Index}
-use Rattle.disk_model.specs.Content.{Content}
-use Rattle.record_model.specs.declared.attribute.Attr.{Attr}
-use Rattle.record_model.specs.declared.runs.Run.{Run}
-use Rattle.record_model.specs.Records.{Record}
-use Rattle.record_model.specs.Constants.{file_name, data_type, names_index, index_allocation, bitmap_type}
-use Rattle.state_model.specs.declared.stream.Extents.{Extents}
-use Rattle.state_model.specs.declared.stream.Stream.{Stream}
-use Rattle.state_model.specs.declared.stream.Stream.TheVariants.{Held, Placed}
-use Rattle.state_model.specs.Files.{is_directory_record}
-use Rattle.state_model.specs.Rules.{implies, at_file}
-use Rattle.state_model.specs.Streams.{attributes_of, attribute_runs, stream_of, block_at, first_vcn}
-use Rattle.state_model.specs.Loads.{total_clusters}
+use Rattle.upcase_order.specs.disk_model.declared.block.Block.{Block}
+use Rattle.upcase_order.specs.disk_model.declared.block.BlockKind.{BlockKind}
+use Rattle.upcase_order.specs.disk_model.declared.block.BlockKind.TheVariants.{FileRec, Index}
+use Rattle.upcase_order.specs.disk_model.Content.{Content}
+use Rattle.upcase_order.specs.record_model.declared.attribute.Attr.{Attr}
+use Rattle.upcase_order.specs.record_model.declared.runs.Run.{Run}
+use Rattle.upcase_order.specs.record_model.Records.{Record}
+use Rattle.upcase_order.specs.record_model.Constants.{file_name, data_type, names_index, index_allocation, bitmap_type}
+use Rattle.upcase_order.specs.state_model.declared.stream.Extents.{Extents}
+use Rattle.upcase_order.specs.state_model.declared.stream.Stream.{Stream}
+use Rattle.upcase_order.specs.state_model.declared.stream.Stream.TheVariants.{Held, Placed}
+use Rattle.upcase_order.specs.state_model.Files.{is_directory_record}
+use Rattle.upcase_order.specs.state_model.Rules.{implies, at_file}
+use Rattle.upcase_order.specs.state_model.Streams.{attributes_of, attribute_runs, stream_of, block_at, first_vcn}
+use Rattle.upcase_order.specs.state_model.Loads.{total_clusters}
 use Rattle.volume_model.specs.Volumes.{Volume, count_of, file_in, table_file, mirror_file, log_file, bitmap_file, size_or, cluster_bitmap, record_bitmap}
 
 -- ---- attributes

@@ -1,18 +1,18 @@
 -- A volume as its file table is loaded, and the bits of its bitmaps.
 use Rattle.std.specs.Prelude.{ℕ, ◌*◌, Bool, List, [], length, nat_le, if◌then◌else◌, Option, Some, None, Result, Ok, Err}
-use Rattle.host_base.specs.Answers.{◌>>=◌}
-use Rattle.disk_model.specs.declared.block.Block.{Block}
-use Rattle.disk_model.specs.declared.block.BlockKind.TheVariants.{FileRec}
-use Rattle.disk_model.specs.Content.{Content}
-use Rattle.record_model.specs.Records.{Record}
-use Rattle.record_model.specs.Constants.{data_type, bitmap_type}
-use Rattle.state_model.specs.declared.geometry.Geometry.{Geometry}
-use Rattle.state_model.specs.declared.geometry.MapRefusal.{MapRefusal}
-use Rattle.state_model.specs.declared.stream.Extents.{Extents}
-use Rattle.state_model.specs.declared.stream.Stream.{Stream}
-use Rattle.state_model.specs.Files.{Table, file_at}
-use Rattle.state_model.specs.Streams.{stream_of, stream_bytes, real_size, block_at}
-use Rattle.state_model.specs.Loads.{table_of, table_in, files_in, is_used}
+use Rattle.bit_set.specs.host_base.Answers.{◌>>=◌}
+use Rattle.upcase_order.specs.disk_model.declared.block.Block.{Block}
+use Rattle.upcase_order.specs.disk_model.declared.block.BlockKind.TheVariants.{FileRec}
+use Rattle.upcase_order.specs.disk_model.Content.{Content}
+use Rattle.upcase_order.specs.record_model.Records.{Record}
+use Rattle.upcase_order.specs.record_model.Constants.{data_type, bitmap_type}
+use Rattle.upcase_order.specs.state_model.declared.geometry.Geometry.{Geometry}
+use Rattle.upcase_order.specs.state_model.declared.geometry.MapRefusal.{MapRefusal}
+use Rattle.upcase_order.specs.state_model.declared.stream.Extents.{Extents}
+use Rattle.upcase_order.specs.state_model.declared.stream.Stream.{Stream}
+use Rattle.upcase_order.specs.state_model.Files.{Table, file_at}
+use Rattle.upcase_order.specs.state_model.Streams.{stream_of, stream_bytes, real_size, block_at}
+use Rattle.upcase_order.specs.state_model.Loads.{table_of, table_in, files_in, is_used}
 use Rattle.bit_set.specs.Words.{bits_of_bytes}
 use Rattle.upcase_order.specs.declared.upcase.UpcaseFault.{UpcaseFault}
 use Rattle.upcase_order.specs.Tables.{upcase_of, standard_table}

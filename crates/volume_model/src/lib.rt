@@ -7,4 +7,6 @@
 
 mod laws;
 
+pub use bit_set::{BitSet, Bytes, FileRef, Memory, is_same_reference};
 pub use laws::{joined_in_any_order, loaded_files};
+pub use upcase_order::{Link, LinkList, Name, Node, Run, Runs, Upcase, UpcaseFault};

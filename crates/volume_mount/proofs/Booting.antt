@@ -7,21 +7,21 @@ use Rattle.std.proofs.lemmas.Bool.{cases_lt, and_parts, and_from, or_parts, eqb-
 use Rattle.std.proofs.lemmas.List.Sums.{sum_by-cons}
 use Rattle.host_base.specs.Answers.{◌>>=◌, needs}
 use Rattle.disk_model.specs.Content.{Content}
-use Rattle.record_model.specs.declared.attribute.Attr.{Attr}
-use Rattle.record_model.specs.declared.runs.Run.{Run}
-use Rattle.record_model.specs.Constants.{data_type}
-use Rattle.record_model.specs.Records.{Record}
-use Rattle.record_model.proofs.Answering.{steps_from_ok}
+use Rattle.state_model.specs.record_model.declared.attribute.Attr.{Attr}
+use Rattle.state_model.specs.record_model.declared.runs.Run.{Run}
+use Rattle.state_model.specs.record_model.Constants.{data_type}
+use Rattle.state_model.specs.record_model.Records.{Record}
+use Rattle.state_model.proofs.record_model.Answering.{steps_from_ok}
 use Rattle.bit_set.specs.Bits.{bit}
 use Rattle.state_model.specs.declared.stream.Stream.{Stream}
 use Rattle.state_model.specs.Files.{only_base, file_at}
 use Rattle.state_model.specs.Streams.{is_attribute_of, sorted_into, attributes_of, joined, stream_of}
-use Rattle.volume_model.specs.Volumes.{Volume, file_in, file_stream, count_of, cluster_bits}
-use Rattle.volume_model.specs.Owners.{covers, uses}
-use Rattle.stream_laws.specs.Sharing.{StreamKey, stream_at, runs_in}
-use Rattle.stream_laws.proofs.Sharing.{attribute_kind}
-use Rattle.stream_laws.proofs.Tabling.{inside_list}
-use Rattle.image_open.specs.declared.refusal.Refusal.TheVariants.{BadVolume}
+use Rattle.volume_state.specs.volume_model.Volumes.{Volume, file_in, file_stream, count_of, cluster_bits}
+use Rattle.volume_state.specs.volume_model.Owners.{covers, uses}
+use Rattle.volume_shadows.specs.stream_laws.Sharing.{StreamKey, stream_at, runs_in}
+use Rattle.volume_shadows.proofs.stream_laws.Sharing.{attribute_kind}
+use Rattle.volume_shadows.proofs.stream_laws.Tabling.{inside_list}
+use Rattle.image_read.specs.image_open.declared.refusal.Refusal.TheVariants.{BadVolume}
 use Rattle.volume_mount.specs.Boot.{boot_key, KeepsBoot, has_first, is_boot_data, takes_first, file_takes_first, is_taken, keeps_boot, BootIsTried}
 
 -- ---- numbers from one on

@@ -5,11 +5,11 @@ use Rattle.host_base.specs.Answers.{◌>>=◌, Gives, GivesOrFails}
 use Rattle.host_base.proofs.Known.{both, one}
 use Rattle.disk_model.specs.Content.{Content}
 use Rattle.file_tree.specs.declared.tree.Tree.{Tree}
-use Rattle.volume_model.specs.Volumes.{Volume}
-use Rattle.image_open.specs.declared.refusal.Refusal.{Refusal}
-use Rattle.image_open.specs.declared.refusal.MountFault.{MountFault}
-use Rattle.image_open.specs.Errors.{scan_cause}
-use Rattle.image_open.proofs.Steps.{gives_or_fails}
+use Rattle.volume_state.specs.volume_model.Volumes.{Volume}
+use Rattle.image_read.specs.image_open.declared.refusal.Refusal.{Refusal}
+use Rattle.image_read.specs.image_open.declared.refusal.MountFault.{MountFault}
+use Rattle.image_read.specs.image_open.Errors.{scan_cause}
+use Rattle.image_read.proofs.image_open.Steps.{gives_or_fails}
 use Rattle.image_read.specs.Checks.{tree_on}
 use Rattle.volume_mount.specs.Mounts.{ruled}
 

@@ -5,10 +5,10 @@ use Rattle.std.specs.Int.{div_ceil}
 use Rattle.std.proofs.lemmas.List.{drop_all, drop_more}
 use Rattle.std.proofs.lemmas.Bool.{cases_lt}
 use Rattle.std.proofs.lemmas.Grind.{div_ceil_times}
-use Rattle.log_page.specs.declared.places.Extent.{Extent}
-use Rattle.log_page.specs.declared.places.LogPlace.{LogPlace}
-use Rattle.log_reading.specs.LogPages.{sector_in, sector_below}
-use Rattle.stream_rules.proofs.Failing.{failing_none, failing_some}
+use Rattle.image_read.specs.log_page.declared.places.Extent.{Extent}
+use Rattle.image_read.specs.log_page.declared.places.LogPlace.{LogPlace}
+use Rattle.image_read.specs.log_reading.LogPages.{sector_in, sector_below}
+use Rattle.image_read.proofs.stream_rules.Failing.{failing_none, failing_some}
 use Rattle.volume_mount.specs.Fronts.{LieInFront}
 use Rattle.volume_mount.specs.Mounts.{is_there, begun_sectors, or_all, front_sectors}
 

@@ -6,26 +6,26 @@ use Rattle.std.specs.Int.{div_ceil}
 use Rattle.host_base.specs.Answers.{◌>>=◌, ExplainsOrFails, GivesOrFails}
 use Rattle.host_base.proofs.Known.{both, one}
 use Rattle.disk_model.specs.Content.{Content}
-use Rattle.record_model.proofs.Answering.{steps_from_ok}
+use Rattle.state_model.proofs.record_model.Answering.{steps_from_ok}
 use Rattle.state_model.specs.declared.geometry.Geometry.{Geometry}
 use Rattle.state_model.specs.Rules.{first_failing}
-use Rattle.volume_model.specs.Volumes.{Volume, cluster_bits, upper_of}
+use Rattle.volume_state.specs.volume_model.Volumes.{Volume, cluster_bits, upper_of}
 use Rattle.volume_state.specs.Rules.{first_broken}
 use Rattle.volume_state.specs.Trees.{tree_of, checked}
 use Rattle.volume_state.proofs.Reports.{reports}
-use Rattle.volume_map.specs.Maps.{IsMapOf, volume_in}
-use Rattle.log_page.specs.declared.places.LogPlace.{LogPlace}
-use Rattle.log_recovery.specs.Recovering.{content_with, shadow_lsn}
+use Rattle.image_read.specs.volume_map.Maps.{IsMapOf, volume_in}
+use Rattle.image_read.specs.log_page.declared.places.LogPlace.{LogPlace}
+use Rattle.volume_shadows.specs.log_recovery.Recovering.{content_with, shadow_lsn}
 use Rattle.volume_shadows.specs.Live.{least_lsn, least_live}
 use Rattle.volume_shadows.proofs.Holding.{least_held}
 use Rattle.volume_lookup.proofs.Asking.{known_where}
-use Rattle.image_open.specs.declared.refusal.Refusal.{Refusal}
-use Rattle.image_open.specs.declared.refusal.MountFault.{MountFault}
-use Rattle.image_open.specs.declared.writing.OpeningToWrite.{OpeningToWrite}
-use Rattle.image_open.specs.Errors.{scan_cause, refused_as}
-use Rattle.image_open.specs.LogPlaces.{LieAlike}
-use Rattle.image_open.specs.Writing.{OpenedToWrite, opened_to_write_in, IsOpenedToWrite, IsOpenedAs, OpensToWrite}
-use Rattle.image_open.proofs.Steps.{failed_error}
+use Rattle.image_read.specs.image_open.declared.refusal.Refusal.{Refusal}
+use Rattle.image_read.specs.image_open.declared.refusal.MountFault.{MountFault}
+use Rattle.image_read.specs.image_open.declared.writing.OpeningToWrite.{OpeningToWrite}
+use Rattle.image_read.specs.image_open.Errors.{scan_cause, refused_as}
+use Rattle.image_read.specs.image_open.LogPlaces.{LieAlike}
+use Rattle.image_read.specs.image_open.Writing.{OpenedToWrite, opened_to_write_in, IsOpenedToWrite, IsOpenedAs, OpensToWrite}
+use Rattle.image_read.proofs.image_open.Steps.{failed_error}
 use Rattle.image_read.specs.Errors.{broken_refusal}
 use Rattle.image_read.specs.Checks.{volume_on, has_version, tree_on}
 use Rattle.volume_mount.specs.declared.loading.LoadedVolume.{LoadedVolume}

@@ -7,10 +7,10 @@ use Rattle.sector_device.specs.Moments.{Changes}
 use Rattle.file_tree.specs.declared.tree.Tree.{Tree}
 use Rattle.tree_model.specs.declared.reply.Reply.{Reply}
 use Rattle.tree_model.specs.declared.reply.Reply.TheVariants.{Fault}
-use Rattle.tree_lookup.specs.Answered.{CountsReply}
-use Rattle.device_view.specs.Devices.{BorrowedDevice, borrowed, failures}
-use Rattle.device_view.proofs.Failing.{has_failed, has_not_failed}
-use Rattle.device_view.proofs.Keeping.{device_failed}
+use Rattle.volume_lookup.specs.tree_lookup.Answered.{CountsReply}
+use Rattle.image_read.specs.device_view.Devices.{BorrowedDevice, borrowed, failures}
+use Rattle.image_read.proofs.device_view.Failing.{has_failed, has_not_failed}
+use Rattle.image_read.proofs.device_view.Keeping.{device_failed}
 use Rattle.volume_mount.specs.Answers.{CountsReplyOnDevice}
 
 failed_where : (known : Option Tree) (before now moment_before moment_now : ℕ) → IfSome known (λ t. Rose (failures before moment_before) (failures now moment_now)) → IfSome known (λ t. HasFailed before now moment_now)

@@ -7,8 +7,8 @@ use Rattle.host_base.proofs.Known.{both}
 use Rattle.disk_model.specs.Sectors.{sector_of}
 use Rattle.disk_model.specs.Content.{content_of}
 use Rattle.sector_device.specs.Sectors.{IsDiskOf}
-use Rattle.image_open.specs.declared.refusal.Refusal.TheVariants.{Short}
-use Rattle.image_open.specs.declared.refusal.MountFault.{MountFault}
+use Rattle.image_read.specs.image_open.declared.refusal.Refusal.TheVariants.{Short}
+use Rattle.image_read.specs.image_open.declared.refusal.MountFault.{MountFault}
 use Rattle.volume_mount.specs.declared.mounted.Mounted.{Mounted}
 use Rattle.volume_mount.specs.Mounts.{mounted_in, mounted_of}
 use Rattle.volume_mount.specs.Answers.{MountsAs}

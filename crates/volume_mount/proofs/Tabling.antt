@@ -4,13 +4,13 @@ use Rattle.std.specs.Prelude.{IfSome}
 use Rattle.host_base.specs.Answers.{GivesOrFails}
 use Rattle.host_base.proofs.Known.{one, always}
 use Rattle.disk_model.specs.Content.{Content}
-use Rattle.volume_model.specs.Volumes.{Volume, upper_of}
+use Rattle.volume_state.specs.volume_model.Volumes.{Volume, upper_of}
 use Rattle.block_view.specs.declared.fault.ViewFault.{ViewFault}
 use Rattle.block_view.specs.declared.fault.ViewFault.TheVariants.{Fault, Memory}
-use Rattle.image_open.specs.declared.refusal.Refusal.{Refusal}
-use Rattle.image_open.specs.declared.refusal.MountFault.{MountFault}
-use Rattle.image_open.specs.Errors.{scan_cause, error_of_view}
-use Rattle.image_open.proofs.Steps.{okay}
+use Rattle.image_read.specs.image_open.declared.refusal.Refusal.{Refusal}
+use Rattle.image_read.specs.image_open.declared.refusal.MountFault.{MountFault}
+use Rattle.image_read.specs.image_open.Errors.{scan_cause, error_of_view}
+use Rattle.image_read.proofs.image_open.Steps.{okay}
 
 fails : (e : ViewFault) (upper : List ℕ) → GivesOrFails {X = List ℕ} {E = MountFault} {F = Refusal} (λ u. u) scan_cause (Err (error_of_view e)) (Ok upper)
 fails Fault upper = tt

@@ -6,11 +6,11 @@ use Rattle.disk_model.specs.Content.{Content}
 use Rattle.file_tree.specs.declared.tree.Tree.{Tree}
 use Rattle.tree_model.specs.declared.reply.Reply.{Reply}
 use Rattle.tree_model.specs.declared.reply.Reply.TheVariants.{Fault}
-use Rattle.volume_map.specs.Maps.{IsMapOf, volume_in}
-use Rattle.image_open.specs.declared.refusal.Refusal.{Refusal}
-use Rattle.image_open.specs.declared.refusal.MountFault.{MountFault}
-use Rattle.image_open.specs.Errors.{scan_cause}
-use Rattle.image_open.specs.Writing.{IsOpenedToWrite}
+use Rattle.image_read.specs.volume_map.Maps.{IsMapOf, volume_in}
+use Rattle.image_read.specs.image_open.declared.refusal.Refusal.{Refusal}
+use Rattle.image_read.specs.image_open.declared.refusal.MountFault.{MountFault}
+use Rattle.image_read.specs.image_open.Errors.{scan_cause}
+use Rattle.image_read.specs.image_open.Writing.{IsOpenedToWrite}
 use Rattle.volume_mount.specs.declared.mounted.Mounted.{Mounted}
 use Rattle.volume_mount.specs.Mounts.{MountedVolume, upper_in, tree_in}
 use Rattle.volume_mount.specs.Trees.{content_of_mounted, tree_over}

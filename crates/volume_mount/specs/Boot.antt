@@ -3,17 +3,17 @@ use Rattle.std.specs.Prelude.{◌≡◌, ◌≢◌, ℕ, Bool, true, false, not,
 use Rattle.std.specs.List.{list_any, range_with_len}
 use Rattle.host_base.specs.Answers.{◌>>=◌, needs}
 use Rattle.disk_model.specs.Content.{Content}
-use Rattle.record_model.specs.declared.attribute.Attr.{Attr}
-use Rattle.record_model.specs.Constants.{data_type}
-use Rattle.record_model.specs.Records.{Record}
+use Rattle.state_model.specs.record_model.declared.attribute.Attr.{Attr}
+use Rattle.state_model.specs.record_model.Constants.{data_type}
+use Rattle.state_model.specs.record_model.Records.{Record}
 use Rattle.bit_set.specs.Bits.{bit}
 use Rattle.state_model.specs.declared.stream.Stream.{Stream}
 use Rattle.state_model.specs.Streams.{is_attribute_of, stream_of}
-use Rattle.volume_model.specs.Volumes.{Volume, file_in, count_of, cluster_bits}
-use Rattle.volume_model.specs.Owners.{covers, uses}
-use Rattle.stream_laws.specs.Sharing.{StreamKey, stream_at, runs_in}
-use Rattle.image_open.specs.declared.refusal.Refusal.{Refusal}
-use Rattle.image_open.specs.declared.refusal.Refusal.TheVariants.{BadVolume}
+use Rattle.volume_state.specs.volume_model.Volumes.{Volume, file_in, count_of, cluster_bits}
+use Rattle.volume_state.specs.volume_model.Owners.{covers, uses}
+use Rattle.volume_shadows.specs.stream_laws.Sharing.{StreamKey, stream_at, runs_in}
+use Rattle.image_read.specs.image_open.declared.refusal.Refusal.{Refusal}
+use Rattle.image_read.specs.image_open.declared.refusal.Refusal.TheVariants.{BadVolume}
 
 -- the unnamed data of $Boot
 abbrev pub boot_key : StreamKey

@@ -1,7 +1,7 @@
 -- How much of a log lies on a device, by the runs of its sectors.
 use Rattle.std.specs.Prelude.{◌≡◌, ℕ, ◌<◌, ◌≤◌, true, false, List, is_some}
-use Rattle.log_page.specs.declared.places.Extent.{Extent}
-use Rattle.log_reading.specs.LogPages.{sector_in, sector_below}
+use Rattle.image_read.specs.log_page.declared.places.Extent.{Extent}
+use Rattle.image_read.specs.log_reading.LogPages.{sector_in, sector_below}
 
 -- Of so many sectors at most that these runs name the first ones lie on a device; and of fewer the next one doesn't.
 pub record LieInFront (device all : ℕ) (runs : List Extent) (count : ℕ) : Type 0 where

@@ -4,26 +4,26 @@ use Rattle.std.specs.Int.{div_ceil}
 use Rattle.host_base.specs.Answers.{◌>>=◌, needs}
 use Rattle.disk_model.specs.declared.block.Block.{Block}
 use Rattle.disk_model.specs.Content.{Content}
-use Rattle.record_model.specs.declared.attribute.Attr.{Attr}
-use Rattle.record_model.specs.Constants.{attribute_list}
-use Rattle.record_model.specs.Records.{Record}
+use Rattle.state_model.specs.record_model.declared.attribute.Attr.{Attr}
+use Rattle.state_model.specs.record_model.Constants.{attribute_list}
+use Rattle.state_model.specs.record_model.Records.{Record}
 use Rattle.file_tree.specs.declared.tree.Tree.{Tree}
 use Rattle.file_tree.specs.Walks.{child_in}
 use Rattle.state_model.specs.declared.geometry.Geometry.{Geometry}
 use Rattle.state_model.specs.Rules.{first_failing}
 use Rattle.state_model.specs.Trees.{all_links}
-use Rattle.volume_model.specs.Volumes.{Volume, files_by_number, file_in, count_of, log_file, cluster_bits, upper_of}
+use Rattle.volume_state.specs.volume_model.Volumes.{Volume, files_by_number, file_in, count_of, log_file, cluster_bits, upper_of}
 use Rattle.volume_state.specs.Journals.{extend_file, journal_name}
 use Rattle.volume_state.specs.Trees.{tree_of}
 use Rattle.log_model.specs.Logs.{recovered}
-use Rattle.log_recovery.specs.Recovering.{shadow_lsn}
-use Rattle.log_page.specs.declared.places.LogPlace.{LogPlace}
-use Rattle.log_page.specs.Places.{page_bytes}
-use Rattle.log_reading.specs.LogPages.{log_sector}
-use Rattle.image_open.specs.declared.refusal.Refusal.{Refusal}
-use Rattle.image_open.specs.declared.refusal.Refusal.TheVariants.{LogSmall, Unbuilt, ForeignLog, BadVolume}
-use Rattle.image_open.specs.Volumes.{on_disk}
-use Rattle.image_open.specs.Writing.{OpenedToWrite, opened_to_write_in}
+use Rattle.volume_shadows.specs.log_recovery.Recovering.{shadow_lsn}
+use Rattle.image_read.specs.log_page.declared.places.LogPlace.{LogPlace}
+use Rattle.image_read.specs.log_page.Places.{page_bytes}
+use Rattle.image_read.specs.log_reading.LogPages.{log_sector}
+use Rattle.image_read.specs.image_open.declared.refusal.Refusal.{Refusal}
+use Rattle.image_read.specs.image_open.declared.refusal.Refusal.TheVariants.{LogSmall, Unbuilt, ForeignLog, BadVolume}
+use Rattle.image_read.specs.image_open.Volumes.{on_disk}
+use Rattle.image_read.specs.image_open.Writing.{OpenedToWrite, opened_to_write_in}
 use Rattle.image_read.specs.Checks.{volume_on, has_version, tree_on}
 use Rattle.volume_shadows.specs.Live.{least_live}
 use Rattle.volume_mount.specs.Boot.{keeps_boot}

@@ -3,9 +3,9 @@ use Rattle.std.specs.Prelude.{ℕ, List, Option}
 use Rattle.std.specs.Option.{option_map}
 use Rattle.disk_model.specs.Content.{Content}
 use Rattle.file_tree.specs.declared.tree.Tree.{Tree}
-use Rattle.log_recovery.specs.Recovering.{content_with}
-use Rattle.device_view.specs.Devices.{content_of_sectors}
-use Rattle.volume_map.specs.Maps.{volume_in}
+use Rattle.volume_shadows.specs.log_recovery.Recovering.{content_with}
+use Rattle.image_read.specs.device_view.Devices.{content_of_sectors}
+use Rattle.image_read.specs.volume_map.Maps.{volume_in}
 use Rattle.volume_lookup.specs.Known.{known_tree}
 use Rattle.volume_mount.specs.declared.mounted.Mounted.{Mounted}
 

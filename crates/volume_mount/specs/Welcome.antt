@@ -1,7 +1,7 @@
 -- What a mount asks of a state.
 use Rattle.std.specs.Prelude.{◌≡◌, true, is_some, Ok}
 use Rattle.disk_model.specs.Content.{Content}
-use Rattle.volume_model.specs.Volumes.{Volume, file_in, log_file, upper_of}
+use Rattle.volume_state.specs.volume_model.Volumes.{Volume, file_in, log_file, upper_of}
 use Rattle.image_read.specs.Checks.{has_version}
 use Rattle.volume_mount.specs.Boot.{KeepsBoot}
 use Rattle.volume_mount.specs.Mounts.{has_no_journal, has_single_lists}

@@ -1,11 +1,11 @@
 ghost use Rattle.std.specs.Prelude.{◌≡◌, ℕ, ◌<◌, true, false, length, IfOk, IfSome};
 ghost use Rattle.host_base.specs.Causes.{HasFailed, last_moment};
 ghost use Rattle.block_view.specs.Views.{KeepsView};
-ghost use Rattle.device_view.specs.Devices.{KeepsDevice};
+ghost use Rattle.image_read.specs.device_view.Devices.{KeepsDevice};
 ghost use Rattle.tree_model.specs.Steps.{is_look, is_given_up, Replies, IsStep};
-ghost use Rattle.tree_lookup.specs.Answered.{CountsReply};
-ghost use Rattle.volume_map.specs.Maps.{volume_in};
-ghost use Rattle.volume_tree.specs.Named.{AreNamesOf};
+ghost use Rattle.volume_lookup.specs.tree_lookup.Answered.{CountsReply};
+ghost use Rattle.image_read.specs.volume_map.Maps.{volume_in};
+ghost use Rattle.volume_lookup.specs.volume_tree.Named.{AreNamesOf};
 ghost use Rattle.volume_lookup.specs.Known.{known_tree};
 ghost use Rattle.volume_mount.specs.Trees.{tree_over, tree_shown};
 ghost use Rattle.volume_mount.specs.Answers.{CountsReplyOnDevice};
@@ -13,14 +13,12 @@ ghost use Rattle.volume_mount.specs.Answers.{CountsReplyOnDevice};
 use crate::lent::LentView;
 use crate::mounted::Mounted;
 use block_view::View;
-use device_view::{DeviceView, PIECE_BYTES};
 use host_base::Memory;
-use log_recovery::RecoveredView;
+use image_read::{DeviceView, PIECE_BYTES};
 use sector_device::Device;
 use std::alloc::Global;
-use tree_lookup::{Op, Reply, answer};
-use upcase_order::Upcase;
-use volume_lookup::{NamedVolume, Names, VolumeTree};
+use volume_lookup::{NamedVolume, Names, Op, Reply, Upcase, VolumeTree, answer};
+use volume_shadows::RecoveredView;
 
 // The reply of a loaded volume, whose table of upper-case units this is, over a view of its content.
 fn reply_over<V: View>(

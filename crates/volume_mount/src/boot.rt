@@ -3,20 +3,17 @@ ghost use Rattle.std.specs.Prelude.{◌≡◌, false, IfOk, IfSome, IsTrue};
 ghost use Rattle.std.specs.List.{list_any};
 ghost use Rattle.host_base.specs.Answers.{Gives};
 ghost use Rattle.state_model.specs.Streams.{stream_of};
-ghost use Rattle.volume_model.specs.Volumes.{file_in};
-ghost use Rattle.volume_model.specs.Owners.{covers};
-ghost use Rattle.volume_map.specs.Maps.{volume_in};
-ghost use Rattle.image_open.specs.Errors.{scan_cause};
+ghost use Rattle.volume_state.specs.volume_model.Volumes.{file_in};
+ghost use Rattle.volume_state.specs.volume_model.Owners.{covers};
+ghost use Rattle.image_read.specs.volume_map.Maps.{volume_in};
+ghost use Rattle.image_read.specs.image_open.Errors.{scan_cause};
 ghost use Rattle.volume_mount.specs.Boot.{has_first, is_boot_data, takes_first, file_takes_first, is_taken, keeps_boot};
 
-use file_record::file_at;
 use host_base::Memory;
-use image_open::{MountFault, Refusal};
-use record_model::{Attr, DATA, Run};
-use state_model::Stream;
+use image_read::{MountFault, Refusal, VolumeMap};
+use state_model::{Attr, DATA, Run, Stream};
 use std::alloc::Global;
-use stream_map::{is_attribute_of, stream_of};
-use volume_map::VolumeMap;
+use volume_shadows::{file_at, is_attribute_of, stream_of};
 
 // The number of `$Boot`.
 const BOOT_FILE: u64 = 7;

@@ -2,19 +2,17 @@
 ghost use Rattle.std.specs.Prelude.{◌≡◌};
 ghost use Rattle.host_base.specs.Answers.{Gives};
 ghost use Rattle.state_model.specs.Rules.{first_failing};
-ghost use Rattle.volume_model.specs.Volumes.{file_in, count_of};
-ghost use Rattle.volume_map.specs.Maps.{volume_in};
-ghost use Rattle.image_open.specs.Errors.{scan_cause};
+ghost use Rattle.volume_state.specs.volume_model.Volumes.{file_in, count_of};
+ghost use Rattle.image_read.specs.volume_map.Maps.{volume_in};
+ghost use Rattle.image_read.specs.image_open.Errors.{scan_cause};
 ghost use Rattle.volume_mount.specs.Mounts.{list_count, has_single_list, has_single_lists, changeable};
 
 use crate::boot::keeps_boot;
 use crate::pages::pages_lie;
-use file_record::{FileRec, file_at};
-use image_open::{MountFault, Refusal};
-use log_page::LogPlace;
-use record_model::ATTRIBUTE_LIST;
+use image_read::{LogPlace, MountFault, Refusal, VolumeMap};
+use state_model::ATTRIBUTE_LIST;
 use std::alloc::Global;
-use volume_map::VolumeMap;
+use volume_shadows::{FileRec, file_at};
 
 // How many attributes of a file are attribute lists.
 fn list_count(file: &FileRec) -> usize

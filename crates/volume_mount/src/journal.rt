@@ -6,18 +6,16 @@ ghost use Rattle.file_tree.specs.declared.link.Link.{Link as the_link};
 ghost use Rattle.file_tree.specs.Names.{same_name};
 ghost use Rattle.file_tree.specs.Trees.{is_in};
 ghost use Rattle.file_tree.specs.Walks.{child_in};
-ghost use Rattle.volume_map.specs.Maps.{volume_in};
+ghost use Rattle.image_read.specs.volume_map.Maps.{volume_in};
 ghost use Rattle.volume_state.specs.Journals.{extend_file, journal_name};
-ghost use Rattle.image_open.specs.Errors.{scan_cause};
+ghost use Rattle.image_read.specs.image_open.Errors.{scan_cause};
 ghost use Rattle.volume_mount.specs.Mounts.{journal_number, has_no_journal};
 
 use file_tree::Link;
 use host_base::Memory;
-use image_open::{MountFault, Refusal};
-use record_rules::all_links;
+use image_read::{MountFault, Refusal, VolumeMap};
 use std::alloc::Global;
-use upcase_order::Upcase;
-use volume_map::VolumeMap;
+use volume_lookup::{Upcase, all_links};
 
 // The number of `$Extend`.
 const EXTEND_FILE: u64 = 11;

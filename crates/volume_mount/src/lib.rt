@@ -21,7 +21,12 @@ mod mounting;
 mod pages;
 
 pub use asking::MountedTree;
-pub use image_open::{MountFault, OpeningToWrite, Refusal};
+pub use image_read::{
+    MountFault, OpeningToWrite, ReadJournal, Refusal, VolumeMap, boot_block, check_image,
+    file_stream, has_type, open_to_write, read_journal, scan_image,
+};
 pub use laws::boot_is_tried;
 pub use mounted::Mounted;
 pub use mounting::mount;
+pub use volume_lookup::{Names, VolumeTree};
+pub use volume_shadows::owned_once;

@@ -2,11 +2,11 @@
 ghost use Rattle.std.specs.Prelude.{◌≡◌, ◌*◌, ◌^◌, ◌<◌, Ok, All, IfOk, IfSome};
 ghost use Rattle.host_base.specs.Answers.{Gives, GivesOrFails};
 ghost use Rattle.block_view.specs.Views.{AsksView};
-ghost use Rattle.volume_model.specs.Volumes.{upper_of};
-ghost use Rattle.volume_map.specs.Maps.{IsMapOf, volume_in};
-ghost use Rattle.log_recovery.specs.Recovering.{content_with, IsSized};
-ghost use Rattle.log_recovery.specs.Places.{HasPlaces};
-ghost use Rattle.image_open.specs.Errors.{scan_cause};
+ghost use Rattle.volume_state.specs.volume_model.Volumes.{upper_of};
+ghost use Rattle.image_read.specs.volume_map.Maps.{IsMapOf, volume_in};
+ghost use Rattle.volume_shadows.specs.log_recovery.Recovering.{content_with, IsSized};
+ghost use Rattle.volume_shadows.specs.log_recovery.Places.{HasPlaces};
+ghost use Rattle.image_read.specs.image_open.Errors.{scan_cause};
 ghost use Rattle.volume_shadows.specs.Live.{least_lsn};
 ghost use Rattle.volume_mount.specs.Mounts.{ruled, unshadowed, placed, settled, paged, unjournaled, tried, loaded_on};
 
@@ -15,16 +15,14 @@ use crate::journal::has_no_journal;
 use crate::pages::has_pages;
 use block_view::View;
 use disk_model::Body;
-use image_open::{MountFault, OpeningToWrite, Refusal};
-use image_read::{check_version, tree_on, volume_on};
-use log_page::LogPlace;
-use log_recovery::{Places, RecoveredView, Shadow};
+use image_read::{
+    LogPlace, MountFault, OpeningToWrite, Refusal, VolumeMap, check_version, tree_on, upper_table,
+    volume_on,
+};
 use state_model::Geometry;
 use std::alloc::Global;
-use system_files::upper_table;
-use upcase_order::Upcase;
-use volume_map::VolumeMap;
-use volume_shadows::least_live;
+use volume_lookup::Upcase;
+use volume_shadows::{Places, RecoveredView, Shadow, least_live};
 
 /// A volume as it is loaded, and its table of upper-case units.
 #[derive(Drop)]

@@ -1,11 +1,10 @@
 ghost use Rattle.std.specs.Prelude.{All};
-ghost use Rattle.log_recovery.specs.Recovering.{IsSized};
-ghost use Rattle.log_recovery.specs.Places.{HasPlaces};
+ghost use Rattle.volume_shadows.specs.log_recovery.Recovering.{IsSized};
+ghost use Rattle.volume_shadows.specs.log_recovery.Places.{HasPlaces};
 
-use image_open::OpeningToWrite;
-use log_recovery::Places;
-use upcase_order::Upcase;
-use volume_map::VolumeMap;
+use image_read::{OpeningToWrite, VolumeMap};
+use volume_lookup::Upcase;
+use volume_shadows::Places;
 
 /// A volume that is mounted. It borrows nothing of its device.
 #[derive(Drop)]

@@ -3,22 +3,21 @@ ghost use Rattle.std.specs.Prelude.{◌≡◌, ◌*◌, ◌^◌, ◌<◌, Err, A
 ghost use Rattle.host_base.specs.Causes.{HasFailed, last_moment};
 ghost use Rattle.disk_model.specs.Sectors.{sector_of};
 ghost use Rattle.disk_model.specs.Content.{content_of};
-ghost use Rattle.device_view.specs.Devices.{KeepsDevice, CountsOnDevice};
+ghost use Rattle.image_read.specs.device_view.Devices.{KeepsDevice, CountsOnDevice};
 ghost use Rattle.block_view.specs.Views.{AsksView};
-ghost use Rattle.log_recovery.specs.Recovering.{IsSized};
-ghost use Rattle.image_open.specs.Errors.{scan_cause};
-ghost use Rattle.image_open.specs.Writing.{OpenedToWrite, IsOpenedToWrite};
+ghost use Rattle.volume_shadows.specs.log_recovery.Recovering.{IsSized};
+ghost use Rattle.image_read.specs.image_open.Errors.{scan_cause};
+ghost use Rattle.image_read.specs.image_open.Writing.{OpenedToWrite, IsOpenedToWrite};
 ghost use Rattle.volume_mount.specs.Mounts.{mounted_by, mounted_in, mounted_of};
 ghost use Rattle.volume_mount.specs.Answers.{MountsAs};
 
 use crate::loading::load_recovered;
 use crate::mounted::Mounted;
 use block_view::View;
-use device_view::{DeviceView, piece_room};
-use image_open::{MountFault, OpeningToWrite, Refusal, open_to_write};
-use log_recovery::places_of;
+use image_read::{DeviceView, MountFault, OpeningToWrite, Refusal, open_to_write, piece_room};
 use sector_device::Device;
 use std::alloc::Global;
+use volume_shadows::places_of;
 
 // A volume that was opened.
 fn mount_opening<V: View>(

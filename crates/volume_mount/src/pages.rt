@@ -1,16 +1,14 @@
 //! The pages that a log needs.
 ghost use Rattle.std.specs.Prelude.{◌≡◌, ◌-◌, min, is_some};
 ghost use Rattle.host_base.specs.Answers.{Gives};
-ghost use Rattle.image_open.specs.Errors.{scan_cause};
+ghost use Rattle.image_read.specs.image_open.Errors.{scan_cause};
 ghost use Rattle.volume_mount.specs.Fronts.{LieInFront};
 ghost use Rattle.volume_mount.specs.Mounts.{pages_for, pages_needed, whole_pages, has_pages, front_sectors, lying_pages, pages_lie};
-ghost use Rattle.volume_map.specs.Maps.{volume_in};
-ghost use Rattle.volume_model.specs.Volumes.{file_in, log_file};
+ghost use Rattle.image_read.specs.volume_map.Maps.{volume_in};
+ghost use Rattle.volume_state.specs.volume_model.Volumes.{file_in, log_file};
 
-use file_record::file_at;
-use image_open::{MountFault, Refusal};
-use log_page::{Extent, LogPlace};
-use volume_map::VolumeMap;
+use image_read::{Extent, LogPlace, MountFault, Refusal, VolumeMap};
+use volume_shadows::file_at;
 
 // The clusters whose bits lie in one sector of `$Bitmap`.
 const SECTOR_BITS: u64 = 4096;

@@ -8,18 +8,18 @@ use Rattle.volume_state.specs.Trees.{tree_of}
 use Rattle.stream_laws.specs.Sharing.{stream_at, runs_in}
 use Rattle.map_change.specs.Parts.{MapParts}
 use Rattle.plan_owners.specs.Agreeing.{log_key}
-use Rattle.file_puts.specs.declared.streams.VolumeStreams.{VolumeStreams}
-use Rattle.image_open.specs.Writing.{found_by}
-use Rattle.volume_mount.specs.Mounts.{tree_in}
+use Rattle.volume_start.specs.file_puts.declared.streams.VolumeStreams.{VolumeStreams}
+use Rattle.volume_core.specs.image_open.Writing.{found_by}
+use Rattle.volume_core.specs.volume_mount.Mounts.{tree_in}
 use Rattle.txn_state.specs.States.{StateOf, facts_of}
-use Rattle.txn_core.specs.Seen.{Seen}
-use Rattle.txn_core.specs.Views.{present_on, present_content}
-use Rattle.state_store.specs.Volumes.{geometry_of, HoldsState, IsStateOf, SparesState}
-use Rattle.crash_trees.specs.Trees.{IsMountedOn}
-use Rattle.crash_trees.specs.Starts.{BeginsAsMounted}
-use Rattle.change_plan.specs.States.{IsPlannable}
-use Rattle.plans_lead.specs.Leading.{HasLogOf}
-use Rattle.working_volume.specs.Ready.{IsReady}
+use Rattle.volume_core.specs.txn_core.Seen.{Seen}
+use Rattle.volume_core.specs.txn_core.Views.{present_on, present_content}
+use Rattle.volume_core.specs.state_store.Volumes.{geometry_of, HoldsState, IsStateOf, SparesState}
+use Rattle.volume_core.specs.crash_trees.Trees.{IsMountedOn}
+use Rattle.volume_core.specs.crash_trees.Starts.{BeginsAsMounted}
+use Rattle.volume_core.specs.change_plan.States.{IsPlannable}
+use Rattle.volume_core.specs.plans_lead.Leading.{HasLogOf}
+use Rattle.volume_core.specs.working_volume.Ready.{IsReady}
 use Rattle.volume_core.specs.Volumes.{SeenVolume, present_tree}
 use Rattle.volume_core.specs.Histories.{HasHistory}
 use Rattle.volume_core.specs.Calls.{StartsHistory}

@@ -2,7 +2,7 @@
 use Rattle.std.specs.Prelude.{◌≡◌, ℕ, List, [], ◌∷◌, Option, Some, Ok}
 use Rattle.sector_device.specs.Moments.{Changes}
 use Rattle.map_change.specs.Parts.{parts_of}
-use Rattle.volume_mount.specs.Mounts.{MountedVolume, upper_in, tree_in, mounted_of}
+use Rattle.volume_core.specs.volume_mount.Mounts.{MountedVolume, upper_in, tree_in, mounted_of}
 use Rattle.volume_core.specs.Volumes.{SeenVolume, volume_tree}
 use Rattle.volume_core.specs.Histories.{HasHistory}
 

@@ -9,13 +9,13 @@ use Rattle.state_model.specs.declared.geometry.Geometry.{Geometry}
 use Rattle.volume_model.specs.Volumes.{Volume, cluster_bits, upper_of}
 use Rattle.volume_state.specs.Journals.{journal_file, journal_of, some_journal, file_or_none, journal_of_file}
 use Rattle.volume_state.specs.Trees.{volume_journal, tree_with, tree_of}
-use Rattle.log_recovery.specs.Recovering.{shadow_lsn}
-use Rattle.volume_shadows.specs.Live.{least_live}
+use Rattle.volume_mount.specs.log_recovery.Recovering.{shadow_lsn}
+use Rattle.volume_mount.specs.volume_shadows.Live.{least_live}
 use Rattle.log_page.specs.declared.places.LogPlace.{LogPlace}
-use Rattle.image_open.specs.declared.refusal.Refusal.{Refusal}
-use Rattle.image_open.specs.declared.refusal.Refusal.TheVariants.{Short, Unbuilt}
-use Rattle.image_open.specs.Writing.{OpenedToWrite, opened_to_write_in}
-use Rattle.image_read.specs.Checks.{volume_on, has_version, tree_on}
+use Rattle.volume_mount.specs.image_open.declared.refusal.Refusal.{Refusal}
+use Rattle.volume_mount.specs.image_open.declared.refusal.Refusal.TheVariants.{Short, Unbuilt}
+use Rattle.volume_mount.specs.image_open.Writing.{OpenedToWrite, opened_to_write_in}
+use Rattle.volume_mount.specs.image_read.Checks.{volume_on, has_version, tree_on}
 use Rattle.volume_mount.specs.Mounts.{MountedVolume, Said, unless_said, unshadowed, placed, journal_number, has_no_journal, has_pages, may_be_changed, ruled, settled, paged, unjournaled, tried, loaded_on, content_behind, mounted_as, mounted_by, mounted_in, mounted_of, tree_in}
 
 none_of : {X : Type 0} (o : Option X) → not (is_some o) ≡ true → o ≡ None

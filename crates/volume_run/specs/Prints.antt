@@ -7,9 +7,9 @@ use Rattle.tree_model.specs.declared.script.Command.{Command}
 use Rattle.run_model.specs.declared.turn.Turn.{Turn}
 use Rattle.run_model.specs.Texts.{IsRunText}
 use Rattle.serial_run.specs.Runs.{IsRunOf, TakesTurns}
-use Rattle.image_open.specs.declared.refusal.Refusal.{Refusal}
-use Rattle.image_open.specs.declared.refusal.MountFault.{MountFault}
-use Rattle.image_open.specs.Errors.{scan_cause}
+use Rattle.volume_mount.specs.image_open.declared.refusal.Refusal.{Refusal}
+use Rattle.volume_mount.specs.image_open.declared.refusal.MountFault.{MountFault}
+use Rattle.volume_mount.specs.image_open.Errors.{scan_cause}
 use Rattle.volume_mount.specs.Mounts.{MountedVolume, upper_in, tree_in}
 
 -- what a device has counted at some time: its faults, and its moment

@@ -10,4 +10,4 @@ mod running;
 mod volume;
 
 pub use running::run_text;
-pub use volume_mount::{MountFault, Refusal};
+pub use volume_mount::{MountFault, ReadJournal, Refusal, check_image, read_journal, scan_image};

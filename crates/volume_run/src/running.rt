@@ -4,7 +4,7 @@ ghost use Rattle.host_base.specs.Causes.{HasFailed, last_moment};
 ghost use Rattle.device_view.specs.Devices.{KeepsDevice};
 ghost use Rattle.tree_model.specs.Steps.{AllLook};
 ghost use Rattle.run_model.specs.Texts.{IsRunText};
-ghost use Rattle.image_open.specs.declared.refusal.Refusal.{Refusal as RefusalOf};
+ghost use Rattle.volume_mount.specs.image_open.declared.refusal.Refusal.{Refusal as RefusalOf};
 ghost use Rattle.serial_run.specs.Runs.{IsRunOf, TakesTurns};
 ghost use Rattle.volume_mount.specs.Trees.{tree_shown};
 ghost use Rattle.volume_mount.specs.Mounts.{mounted_of};

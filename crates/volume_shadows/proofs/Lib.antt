@@ -1,3 +1,4 @@
+pub use Rattle.stream_laws.proofs as stream_laws
 pub mod Leasts
 pub mod Sorting
 pub mod Placing

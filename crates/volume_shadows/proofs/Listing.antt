@@ -6,16 +6,16 @@ use Rattle.disk_model.specs.declared.block.Block.{Block}
 use Rattle.disk_model.specs.declared.block.BlockKind.{BlockKind}
 use Rattle.disk_model.specs.declared.block.BlockKind.TheVariants.{Plain, FileRec, Index}
 use Rattle.disk_model.specs.Sectors.{sectors}
-use Rattle.record_model.specs.declared.attribute.Attr.{Attr}
-use Rattle.record_model.specs.Records.{Record}
+use Rattle.state_model.specs.record_model.declared.attribute.Attr.{Attr}
+use Rattle.state_model.specs.record_model.Records.{Record}
 use Rattle.state_model.specs.declared.stream.Extents.{Extents}
 use Rattle.state_model.specs.declared.stream.Stream.{Stream}
 use Rattle.state_model.specs.declared.stream.Stream.TheVariants.{Held, Placed}
 use Rattle.state_model.specs.Files.{file_at, only_base}
 use Rattle.state_model.specs.Loads.{table_in}
 use Rattle.state_model.specs.Streams.{is_attribute_of, sorted_into, attributes_of, joined, stream_of, block_at}
-use Rattle.volume_model.specs.Volumes.{Volume, file_in, file_stream}
-use Rattle.volume_model.specs.Sizes.{begun}
+use Rattle.stream_laws.specs.volume_model.Volumes.{Volume, file_in, file_stream}
+use Rattle.stream_laws.specs.volume_model.Sizes.{begun}
 use Rattle.stream_laws.specs.Sharing.{StreamKey, stream_at, runs_in}
 use Rattle.stream_laws.specs.Owners.{stream_kind, initialised_in, IsLive}
 use Rattle.stream_laws.proofs.Sharing.{attribute_kind}

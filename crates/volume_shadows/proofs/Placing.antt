@@ -7,7 +7,7 @@ use Rattle.std.proofs.lemmas.Nat.{div-add-mod', mul-add-lt}
 use Rattle.disk_model.specs.declared.block.BlockKind.{BlockKind}
 use Rattle.disk_model.specs.declared.block.BlockKind.TheVariants.{Plain, FileRec, Index}
 use Rattle.disk_model.specs.Sectors.{sectors}
-use Rattle.record_model.specs.declared.runs.Run.{Run}
+use Rattle.state_model.specs.record_model.declared.runs.Run.{Run}
 use Rattle.log_recovery.specs.declared.found.Shadow.{Shadow}
 use Rattle.volume_shadows.specs.Tries.{run_first, run_end, number_of, tried_at, tried}
 

@@ -11,8 +11,8 @@ use Rattle.disk_model.specs.declared.block.BlockKind.{BlockKind}
 use Rattle.disk_model.specs.declared.block.BlockKind.TheVariants.{Plain, FileRec, Index}
 use Rattle.disk_model.specs.Sectors.{sectors, same_kind, same_block}
 use Rattle.disk_model.proofs.Frames.{same_block-is}
-use Rattle.record_model.specs.declared.runs.Run.{Run}
-use Rattle.record_model.specs.Records.{Record}
+use Rattle.state_model.specs.record_model.declared.runs.Run.{Run}
+use Rattle.state_model.specs.record_model.Records.{Record}
 use Rattle.state_model.specs.Files.{file_at}
 use Rattle.state_model.specs.Loads.{table_in}
 use Rattle.state_model.specs.Streams.{holds, lcn_in, block_at}

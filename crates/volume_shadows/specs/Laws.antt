@@ -2,7 +2,7 @@
 use Rattle.std.specs.Prelude.{◌≡◌, ℕ, ◌≤◌, Option, Some, None}
 use Rattle.std.specs.List.{Contains}
 use Rattle.disk_model.specs.declared.block.Block.{Block}
-use Rattle.volume_model.specs.Volumes.{Volume}
+use Rattle.stream_laws.specs.volume_model.Volumes.{Volume}
 use Rattle.stream_laws.specs.Owners.{IsLive}
 use Rattle.volume_shadows.specs.Live.{live_blocks, least_live}
 

@@ -4,15 +4,15 @@ use Rattle.std.specs.List.{filter_map, flat_map, range_with_len}
 use Rattle.disk_model.specs.declared.block.Block.{Block}
 use Rattle.disk_model.specs.declared.block.BlockKind.{BlockKind}
 use Rattle.disk_model.specs.Sectors.{sectors, same_block}
-use Rattle.record_model.specs.declared.attribute.Attr.{Attr}
-use Rattle.record_model.specs.Records.{Record}
+use Rattle.state_model.specs.record_model.declared.attribute.Attr.{Attr}
+use Rattle.state_model.specs.record_model.Records.{Record}
 use Rattle.state_model.specs.declared.stream.Stream.{Stream}
 use Rattle.state_model.specs.declared.stream.Stream.TheVariants.{Held, Placed}
 use Rattle.state_model.specs.Files.{file_at}
 use Rattle.state_model.specs.Loads.{table_in}
 use Rattle.state_model.specs.Streams.{stream_of, block_at}
-use Rattle.volume_model.specs.Volumes.{Volume}
-use Rattle.volume_model.specs.Sizes.{begun}
+use Rattle.stream_laws.specs.volume_model.Volumes.{Volume}
+use Rattle.stream_laws.specs.volume_model.Sizes.{begun}
 use Rattle.stream_laws.specs.Sharing.{StreamKey}
 use Rattle.stream_laws.specs.Owners.{stream_kind}
 use Rattle.log_recovery.specs.declared.found.Shadow.{Shadow}

@@ -3,7 +3,7 @@ use Rattle.std.specs.Prelude.{ℕ, ◌+◌, ◌-◌, ◌*◌, ◌/◌, Bool, tru
 use Rattle.disk_model.specs.declared.block.Block.{Block}
 use Rattle.disk_model.specs.declared.block.BlockKind.{BlockKind}
 use Rattle.disk_model.specs.Sectors.{sectors, same_block}
-use Rattle.record_model.specs.declared.runs.Run.{Run}
+use Rattle.state_model.specs.record_model.declared.runs.Run.{Run}
 use Rattle.state_model.specs.Streams.{block_at}
 use Rattle.log_recovery.specs.declared.found.Shadow.{Shadow}
 use Rattle.volume_shadows.specs.Least.{least_of}

@@ -15,8 +15,7 @@ use disk_model::BlockKind;
 use file_record::{FileRec, file_at};
 use host_base::Memory;
 use log_recovery::Shadow;
-use record_model::{Attr, DATA, INDEX_ALLOCATION};
-use state_model::ClusterSize;
+use state_model::{Attr, ClusterSize, DATA, INDEX_ALLOCATION};
 use std::alloc::{AllocError, Global};
 use stream_map::{is_attribute_of, stream_of};
 

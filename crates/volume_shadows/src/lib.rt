@@ -13,5 +13,9 @@ mod laws;
 mod numbers;
 mod searching;
 
+pub use file_record::{FileRec, file_at};
 pub use finding::least_live;
 pub use laws::{least_is_said, live_by_list};
+pub use log_recovery::{Places, RecoveredView, Shadow, places_of};
+pub use stream_laws::owned_once;
+pub use stream_map::{is_attribute_of, stream_of};

@@ -4,10 +4,10 @@ ghost use Rattle.std.specs.List.{filter_map, range_with_len};
 ghost use Rattle.std.specs.List.Sorted.{IsNonDecreasingBy};
 ghost use Rattle.disk_model.specs.declared.block.BlockKind.{BlockKind as kind_of_block};
 ghost use Rattle.disk_model.specs.Sectors.{sectors};
-ghost use Rattle.record_model.specs.declared.runs.Run.{Run as a_run};
-ghost use Rattle.record_model.specs.Runs.{IsSmall, AreSmall};
+ghost use Rattle.state_model.specs.record_model.declared.runs.Run.{Run as a_run};
+ghost use Rattle.state_model.specs.record_model.Runs.{IsSmall, AreSmall};
 ghost use Rattle.state_model.specs.Streams.{block_at};
-ghost use Rattle.volume_model.specs.Sizes.{begun};
+ghost use Rattle.stream_laws.specs.volume_model.Sizes.{begun};
 ghost use Rattle.log_recovery.specs.declared.found.Shadow.{Shadow as a_shadow};
 ghost use Rattle.volume_shadows.specs.Least.{least_of};
 ghost use Rattle.volume_shadows.specs.Live.{blocks_in, least_lsn};
@@ -16,8 +16,7 @@ ghost use Rattle.volume_shadows.specs.Tries.{run_first, run_end, number_of, stan
 use crate::numbers::lesser;
 use disk_model::{Block, BlockKind};
 use log_recovery::Shadow;
-use record_model::Run;
-use state_model::{ClusterSize, Stream};
+use state_model::{ClusterSize, Run, Stream};
 use stream_map::block_at;
 
 // How many blocks of this kind begin below an initialised size.

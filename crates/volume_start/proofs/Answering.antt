@@ -7,28 +7,28 @@ use Rattle.disk_model.specs.Content.{content_of}
 use Rattle.sector_device.specs.Disks.{IsSettled}
 use Rattle.sector_device.specs.Moments.{Changes}
 use Rattle.device_view.specs.Devices.{KeepsDevice}
-use Rattle.map_change.specs.Parts.{MapParts, parts_in, geometry_in}
+use Rattle.mounted_states.specs.map_change.Parts.{MapParts, parts_in, geometry_in}
 use Rattle.log_page.specs.declared.places.LogPlace.{LogPlace}
 use Rattle.log_area.specs.Areas.{new_area}
 use Rattle.log_recovery.specs.Writing.{to_write_in}
 use Rattle.file_puts.specs.declared.streams.VolumeStreams.{VolumeStreams}
-use Rattle.image_open.specs.declared.refusal.Refusal.{Refusal}
-use Rattle.image_open.specs.declared.refusal.MountFault.{MountFault}
-use Rattle.image_open.specs.declared.refusal.MountFault.TheVariants as mounts
-use Rattle.image_open.specs.Errors.{scan_cause}
-use Rattle.image_open.specs.LogPlaces.{LieAlike}
-use Rattle.image_open.specs.Writing.{found_by}
-use Rattle.image_open.proofs.Alike.{to_write_alike}
-use Rattle.volume_mount.specs.declared.mounted.Mounted.{Mounted}
-use Rattle.volume_mount.specs.Answers.{MountsAs}
-use Rattle.volume_mount.specs.Mounts.{mounted_of}
+use Rattle.mounted_states.specs.image_open.declared.refusal.Refusal.{Refusal}
+use Rattle.mounted_states.specs.image_open.declared.refusal.MountFault.{MountFault}
+use Rattle.mounted_states.specs.image_open.declared.refusal.MountFault.TheVariants as mounts
+use Rattle.mounted_states.specs.image_open.Errors.{scan_cause}
+use Rattle.mounted_states.specs.image_open.LogPlaces.{LieAlike}
+use Rattle.mounted_states.specs.image_open.Writing.{found_by}
+use Rattle.mounted_states.proofs.image_open.Alike.{to_write_alike}
+use Rattle.mounted_states.specs.volume_mount.declared.mounted.Mounted.{Mounted}
+use Rattle.mounted_states.specs.volume_mount.Answers.{MountsAs}
+use Rattle.mounted_states.specs.volume_mount.Mounts.{mounted_of}
 use Rattle.txn_model.specs.Values.{StoreFacts}
 use Rattle.txn_model.specs.Calls.{first_facts}
 use Rattle.txn_state.specs.States.{StateOf}
 use Rattle.txn_mount.specs.declared.fault.StoreFault.{StoreFault}
 use Rattle.txn_mount.specs.declared.fault.StoreFault.TheVariants as stores
 use Rattle.txn_mount.specs.Faults.{store_cause}
-use Rattle.safe_blocks.specs.Safe.{MountsHoldStates}
+use Rattle.mounted_states.specs.safe_blocks.Safe.{MountsHoldStates}
 use Rattle.mounted_states.proofs.Opened.{mounted_parts, on_sectors}
 use Rattle.volume_start.specs.declared.fault.StartFault.{StartFault}
 use Rattle.volume_start.specs.declared.fault.StartFault.TheVariants.{Refused, Device}

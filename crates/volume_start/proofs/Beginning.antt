@@ -10,33 +10,33 @@ use Rattle.sector_device.specs.Moments.{Changes}
 use Rattle.sector_device.specs.Sectors.{IsDiskOf}
 use Rattle.state_model.specs.declared.geometry.Geometry.{Geometry}
 use Rattle.volume_model.specs.Volumes.{Volume, record_bits, cluster_bits}
-use Rattle.volume_map.specs.declared.head.Head.{Head}
-use Rattle.volume_map.specs.declared.map.VolumeMap.{VolumeMap}
-use Rattle.volume_map.specs.Heads.{heads_of}
-use Rattle.volume_map.specs.Maps.{volume_in}
-use Rattle.map_change.specs.Parts.{MapParts, parts_of, parts_in, geometry_in}
+use Rattle.mounted_states.specs.volume_map.declared.head.Head.{Head}
+use Rattle.mounted_states.specs.volume_map.declared.map.VolumeMap.{VolumeMap}
+use Rattle.mounted_states.specs.volume_map.Heads.{heads_of}
+use Rattle.mounted_states.specs.volume_map.Maps.{volume_in}
+use Rattle.mounted_states.specs.map_change.Parts.{MapParts, parts_of, parts_in, geometry_in}
 use Rattle.log_page.specs.declared.places.LogPlace.{LogPlace}
 use Rattle.store_model.specs.Geometry.{SectorBytes}
 use Rattle.file_puts.specs.Written.{AreStreamsOf}
-use Rattle.plan_edits.specs.Edits.{StateHasBitmap}
+use Rattle.file_puts.specs.plan_edits.Edits.{StateHasBitmap}
 use Rattle.log_recovery.specs.LogStates.{LogState}
 use Rattle.log_recovery.specs.Writing.{state_with}
-use Rattle.image_open.specs.declared.refusal.Refusal.{Refusal}
-use Rattle.image_open.specs.LogPlaces.{LieAlike}
-use Rattle.image_open.specs.Writing.{found_by}
-use Rattle.volume_mount.specs.declared.mounted.Mounted.{Mounted}
-use Rattle.volume_mount.specs.Mounts.{MountedVolume, mounted_in, mounted_of}
-use Rattle.volume_mount.specs.Answers.{IsMounted as IsVolumeMounted, IsMountedAs}
-use Rattle.state_store.specs.Volumes.{geometry_of}
+use Rattle.mounted_states.specs.image_open.declared.refusal.Refusal.{Refusal}
+use Rattle.mounted_states.specs.image_open.LogPlaces.{LieAlike}
+use Rattle.mounted_states.specs.image_open.Writing.{found_by}
+use Rattle.mounted_states.specs.volume_mount.declared.mounted.Mounted.{Mounted}
+use Rattle.mounted_states.specs.volume_mount.Mounts.{MountedVolume, mounted_in, mounted_of}
+use Rattle.mounted_states.specs.volume_mount.Answers.{IsMounted as IsVolumeMounted, IsMountedAs}
+use Rattle.mounted_states.specs.state_store.Volumes.{geometry_of}
 use Rattle.txn_model.specs.Values.{StoreFacts}
 use Rattle.txn_model.specs.Calls.{first_facts}
 use Rattle.txn_state.specs.States.{StateOf, facts_of, IsStore}
 use Rattle.txn_mount.specs.Mounts.{IsMounted, ShowsRecovered, ShowsDisk}
 use Rattle.txn_mount.specs.Laws.{MayMount}
 use Rattle.txn_mount.specs.Plans.{items_by}
-use Rattle.found_stays.specs.Found.{HasFirst, StaysFirst, AreOffLog, StaysOver}
-use Rattle.found_stays.proofs.Lying.{settled_has}
-use Rattle.safe_blocks.specs.Safe.{IsStoreOf, MountsHoldStates}
+use Rattle.mounted_states.specs.found_stays.Found.{HasFirst, StaysFirst, AreOffLog, StaysOver}
+use Rattle.mounted_states.proofs.found_stays.Lying.{settled_has}
+use Rattle.mounted_states.specs.safe_blocks.Safe.{IsStoreOf, MountsHoldStates}
 use Rattle.mounted_states.specs.Shown.{AllPutOut, AreBothMounted, StoresShowMounted}
 use Rattle.mounted_states.specs.Calls.{FoundLieOff, StoresKeepFound}
 use Rattle.mounted_states.specs.Starts.{IsMountedWith, BeginsWith, StoresBegin}

@@ -1,9 +1,9 @@
 -- Why a volume isn't started.
 use Rattle.std.specs.Prelude.{Result, Ok, Err}
 use Rattle.host_base.specs.Answers.{Cause, refused, no_memory, failed}
-use Rattle.image_open.specs.declared.refusal.MountFault.{MountFault}
-use Rattle.image_open.specs.declared.refusal.MountFault.TheVariants as mounts
-use Rattle.image_open.specs.Errors.{log_refusal}
+use Rattle.mounted_states.specs.image_open.declared.refusal.MountFault.{MountFault}
+use Rattle.mounted_states.specs.image_open.declared.refusal.MountFault.TheVariants as mounts
+use Rattle.mounted_states.specs.image_open.Errors.{log_refusal}
 use Rattle.txn_mount.specs.declared.fault.StoreFault.{StoreFault}
 use Rattle.txn_mount.specs.declared.fault.StoreFault.TheVariants as stores
 use Rattle.volume_start.specs.declared.fault.StartFault.{StartFault}

@@ -1,3 +1,4 @@
+pub use Rattle.file_puts.specs as file_puts
 pub mod Faults
 pub mod Fitting
 pub mod Streams

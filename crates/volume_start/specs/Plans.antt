@@ -2,13 +2,13 @@
 use Rattle.std.specs.Prelude.{◌≡◌, ℕ, List, length, Ok}
 use Rattle.disk_model.specs.Sectors.{sector_of}
 use Rattle.disk_model.specs.Content.{content_of}
-use Rattle.map_change.specs.Parts.{geometry_in}
-use Rattle.volume_map.specs.Maps.{volume_in}
-use Rattle.volume_tree.specs.Named.{AreNamesOf}
-use Rattle.image_open.specs.Writing.{found_by}
-use Rattle.volume_mount.specs.declared.mounted.Mounted.{Mounted}
-use Rattle.volume_mount.specs.Mounts.{mounted_of}
-use Rattle.volume_mount.specs.Answers.{MountsAs}
+use Rattle.mounted_states.specs.map_change.Parts.{geometry_in}
+use Rattle.mounted_states.specs.volume_map.Maps.{volume_in}
+use Rattle.mounted_states.specs.volume_tree.Named.{AreNamesOf}
+use Rattle.mounted_states.specs.image_open.Writing.{found_by}
+use Rattle.mounted_states.specs.volume_mount.declared.mounted.Mounted.{Mounted}
+use Rattle.mounted_states.specs.volume_mount.Mounts.{mounted_of}
+use Rattle.mounted_states.specs.volume_mount.Answers.{MountsAs}
 use Rattle.volume_start.specs.declared.plan.StartPlan.{StartPlan}
 use Rattle.volume_start.specs.Fitting.{FitsStart}
 use Rattle.volume_start.specs.Streams.{HasStreams}

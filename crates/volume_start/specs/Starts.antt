@@ -5,18 +5,18 @@ use Rattle.sector_device.specs.Moments.{Changes}
 use Rattle.state_model.specs.declared.stream.Extents.{Extents}
 use Rattle.log_page.specs.declared.places.LogPlace.{LogPlace}
 use Rattle.log_reading.specs.Rings.{IsRingPlace}
-use Rattle.map_change.specs.Parts.{MapParts, parts_of}
-use Rattle.volume_map.specs.Maps.{volume_in}
+use Rattle.mounted_states.specs.map_change.Parts.{MapParts, parts_of}
+use Rattle.mounted_states.specs.volume_map.Maps.{volume_in}
 use Rattle.file_puts.specs.declared.streams.VolumeStreams.{VolumeStreams}
 use Rattle.file_puts.specs.Written.{AreStreamsOf}
-use Rattle.image_open.specs.declared.refusal.Refusal.{Refusal}
-use Rattle.image_open.specs.LogPlaces.{LieAlike}
-use Rattle.image_open.specs.Writing.{found_by}
-use Rattle.volume_mount.specs.declared.mounted.Mounted.{Mounted}
-use Rattle.volume_mount.specs.Mounts.{MountedVolume, upper_in, mounted_of}
+use Rattle.mounted_states.specs.image_open.declared.refusal.Refusal.{Refusal}
+use Rattle.mounted_states.specs.image_open.LogPlaces.{LieAlike}
+use Rattle.mounted_states.specs.image_open.Writing.{found_by}
+use Rattle.mounted_states.specs.volume_mount.declared.mounted.Mounted.{Mounted}
+use Rattle.mounted_states.specs.volume_mount.Mounts.{MountedVolume, upper_in, mounted_of}
 use Rattle.txn_mount.specs.Mounts.{StaysRecovered}
 use Rattle.txn_state.specs.States.{StateOf, facts_of}
-use Rattle.txn_core.specs.Views.{present_on}
+use Rattle.txn_mount.specs.txn_core.Views.{present_on}
 use Rattle.mounted_states.specs.Shown.{ShowsMounted}
 use Rattle.mounted_states.specs.Starts.{BeginsWith}
 use Rattle.mounted_states.specs.Ready.{MayBeChanged}

@@ -6,7 +6,7 @@ use Rattle.state_model.specs.declared.stream.Stream.TheVariants.{Placed}
 use Rattle.state_model.specs.Loads.{extents_or}
 use Rattle.volume_model.specs.Volumes.{Volume}
 use Rattle.stream_laws.specs.Sharing.{stream_at}
-use Rattle.plan_edits.specs.Edits.{bitmap_key, mirror_key}
+use Rattle.file_puts.specs.plan_edits.Edits.{bitmap_key, mirror_key}
 use Rattle.file_puts.specs.declared.streams.VolumeStreams.{VolumeStreams}
 
 -- The bits of the volume's clusters lie in these clusters, whose runs have a spelling; and each cluster has one below the initialised size.

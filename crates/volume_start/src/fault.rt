@@ -1,5 +1,5 @@
 //! Why a volume isn't started.
-use image_open::{MountFault, Refusal};
+use mounted_states::{MountFault, Refusal};
 use std::alloc::{AllocError, AllocFailed};
 use thiserror::Error;
 use txn_mount::StoreFault;

@@ -3,9 +3,9 @@ ghost use Rattle.std.specs.Prelude.{◌≡◌, ◌↔◌, true, length, IfOk, If
 ghost use Rattle.std.specs.List.{list_all};
 ghost use Rattle.host_base.specs.Causes.{HasFailed};
 ghost use Rattle.device_view.specs.Devices.{KeepsDevice};
-ghost use Rattle.map_change.specs.Parts.{geometry_in};
-ghost use Rattle.map_change.specs.Plain.{is_plain};
-ghost use Rattle.image_open.specs.Writing.{found_by};
+ghost use Rattle.mounted_states.specs.map_change.Parts.{geometry_in};
+ghost use Rattle.mounted_states.specs.map_change.Plain.{is_plain};
+ghost use Rattle.mounted_states.specs.image_open.Writing.{found_by};
 ghost use Rattle.volume_start.specs.Plans.{PlansFrom, PlansOn, FitsPlan};
 ghost use Rattle.volume_start.specs.Starts.{RefusesAs, IsUnfit, IsInMemory};
 
@@ -16,18 +16,16 @@ use device_view::piece_room;
 use disk_model::{Block, BlockKind};
 use file_puts::VolumeStreams;
 use file_record::FileRec;
-use image_open::OpeningToWrite;
 use log_page::LogPlace;
 use log_recovery::ToWrite;
-use map_change::LiveMap;
+use mounted_states::{
+    LiveMap, Mounted, Names, OpeningToWrite, VolumeMap, boot_block, has_type, mount,
+};
 use record_model::ATTRIBUTE_LIST;
 use sector_device::Device;
 use state_model::Geometry;
 use std::alloc::{AllocError, Global};
 use upcase_order::Upcase;
-use volume_map::{VolumeMap, boot_block, has_type};
-use volume_mount::{Mounted, mount};
-use volume_tree::Names;
 
 // The number of the log's record.
 const LOG_RECORD: u64 = 2;

@@ -1,8 +1,8 @@
 //! A volume is started.
 ghost use Rattle.std.specs.Prelude.{◌≡◌, length, IfOk, IfErr, IfSome};
 ghost use Rattle.host_base.specs.Causes.{HasFailed};
-ghost use Rattle.map_change.specs.Parts.{live_parts};
-ghost use Rattle.volume_tree.specs.Named.{AreNamesOf};
+ghost use Rattle.mounted_states.specs.map_change.Parts.{live_parts};
+ghost use Rattle.mounted_states.specs.volume_tree.Named.{AreNamesOf};
 ghost use Rattle.volume_start.specs.Faults.{device_behind};
 ghost use Rattle.volume_start.specs.Plans.{PlansOn, FitsPlan};
 ghost use Rattle.volume_start.specs.Starts.{StartsOn, BeginsAnywhere, RefusesAs};
@@ -10,19 +10,15 @@ ghost use Rattle.volume_start.specs.declared.fault.StartFault.TheVariants as fau
 
 use crate::fault::StartFault;
 use crate::plan::{StartPlan, prepare};
-use file_puts::VolumeStreams;
-use map_change::LiveMap;
+use file_puts::{VolumeStreams, state_has_bitmap};
 use mounted_states::{
-    all_put_out, found_lie_off, stores_begin, stores_keep_found, stores_may_be_changed,
-    stores_show_mounted,
+    LiveMap, Names, all_put_out, found_lie_off, mounts_hold_states, stores_begin,
+    stores_keep_found, stores_may_be_changed, stores_show_mounted,
 };
-use plan_edits::state_has_bitmap;
-use safe_blocks::mounts_hold_states;
 use sector_device::Device;
 use std::alloc::Global;
-use txn_core::Store;
+use txn_mount::Store;
 use upcase_order::Upcase;
-use volume_tree::Names;
 
 /// A volume that takes changes.
 #[derive(Drop)]

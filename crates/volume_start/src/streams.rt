@@ -2,17 +2,17 @@
 ghost use Rattle.std.specs.Prelude.{◌≡◌, ◌*◌, ◌≤◌, ◌↔◌, true, IfOk};
 ghost use Rattle.record_model.specs.Pairs.{HasSpelling};
 ghost use Rattle.state_model.specs.Loads.{extents_or};
-ghost use Rattle.volume_map.specs.Maps.{volume_in};
+ghost use Rattle.mounted_states.specs.volume_map.Maps.{volume_in};
 ghost use Rattle.volume_start.specs.Streams.{IsFoundBits, AreFoundStreams};
 
 use file_puts::VolumeStreams;
 use host_base::Memory;
+use mounted_states::{VolumeMap, file_stream};
 use planned_streams::have_spelling;
 use record_model::DATA;
 use state_model::{Extents, Stream};
 use std::alloc::{AllocError, Global};
 use stream_map::no_extents;
-use volume_map::{VolumeMap, file_stream};
 
 // The numbers of `$MFTMirr` and of `$Bitmap`.
 const MIRROR_FILE: u64 = 1;

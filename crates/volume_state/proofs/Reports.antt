@@ -3,20 +3,20 @@ use Rattle.std.proofs.Common.{◌≡◌, ℕ, Bool, true, false, List, [], ◌�
 use Rattle.std.specs.Prelude.{map, if◌then◌else◌}
 use Rattle.std.specs.List.{range_with_len, filter_map, cons_option}
 use Rattle.std.specs.Option.{option_map}
-use Rattle.disk_model.specs.Content.{Content}
-use Rattle.record_model.specs.Records.{Record}
-use Rattle.file_tree.specs.declared.node.Node.{Node}
-use Rattle.file_tree.specs.declared.tree.Tree.{Tree}
-use Rattle.state_model.specs.declared.broken.Broken.{Broken}
-use Rattle.state_model.specs.declared.geometry.Geometry.{Geometry}
-use Rattle.state_model.specs.declared.geometry.MapRefusal.{MapRefusal}
-use Rattle.state_model.specs.declared.stream.Stream.{Stream}
-use Rattle.state_model.specs.Trees.{is_nameless}
+use Rattle.volume_model.specs.disk_model.Content.{Content}
+use Rattle.journal_model.specs.record_model.Records.{Record}
+use Rattle.volume_model.specs.file_tree.declared.node.Node.{Node}
+use Rattle.volume_model.specs.file_tree.declared.tree.Tree.{Tree}
+use Rattle.volume_model.specs.state_model.declared.broken.Broken.{Broken}
+use Rattle.volume_model.specs.state_model.declared.geometry.Geometry.{Geometry}
+use Rattle.volume_model.specs.state_model.declared.geometry.MapRefusal.{MapRefusal}
+use Rattle.volume_model.specs.state_model.declared.stream.Stream.{Stream}
+use Rattle.volume_model.specs.state_model.Trees.{is_nameless}
 use Rattle.volume_model.specs.Volumes.{Volume, volume_of, file_in, count_of, bytes_or}
 use Rattle.volume_model.specs.Nodes.{node_with, node_by, some_node, node_at, nodes_by, all_nodes, bare_nodes, no_bytes}
 use Rattle.volume_state.specs.Rules.{first_broken}
 use Rattle.volume_state.specs.Trees.{Holds, IsState, volume_journal, tree_with, tree_of, report_of, reported, checked, without_records}
-use Rattle.file_tree.specs.Trees.{without_bytes}
+use Rattle.volume_model.specs.file_tree.Trees.{without_bytes}
 use Rattle.volume_state.specs.Laws.{bare}
 
 -- a node without its bytes

@@ -1,23 +1,23 @@
 -- The change journal of a volume: the file that holds it, its limits and its records.
 use Rattle.std.specs.Prelude.{ℕ, ◌+◌, ◌*◌, ◌^◌, Bool, true, not, ◌&&◌, ◌||◌, ◌==◌, nat_le, if◌then◌else◌, List, [], ◌∷◌, find, Option, Some, None, Result, Ok, Err}
 use Rattle.std.specs.List.{list_all, list_any}
-use Rattle.host_base.specs.Answers.{◌>>=◌, needs}
-use Rattle.disk_model.specs.Content.{Content}
-use Rattle.record_model.specs.declared.runs.Run.{Run}
-use Rattle.record_model.specs.declared.values.JournalMax.{JournalMax}
-use Rattle.record_model.specs.declared.values.ValueFault.{ValueFault}
-use Rattle.record_model.specs.StdValues.{journal_max_of}
-use Rattle.record_model.specs.Records.{Record}
-use Rattle.record_model.specs.Constants.{data_type}
-use Rattle.file_tree.specs.declared.journal.Journal.{Journal}
-use Rattle.file_tree.specs.declared.journal.Usn.{Usn}
-use Rattle.file_tree.specs.Walks.{child_in}
-use Rattle.state_model.specs.declared.stream.Extents.{Extents}
-use Rattle.state_model.specs.declared.stream.Stream.{Stream}
-use Rattle.state_model.specs.declared.stream.Stream.TheVariants.{Held, Placed}
-use Rattle.state_model.specs.Files.{is_sparse}
-use Rattle.state_model.specs.Trees.{all_links}
-use Rattle.state_model.specs.Streams.{attributes_of, stream_of, byte_at}
+use Rattle.volume_model.specs.host_base.Answers.{◌>>=◌, needs}
+use Rattle.volume_model.specs.disk_model.Content.{Content}
+use Rattle.journal_model.specs.record_model.declared.runs.Run.{Run}
+use Rattle.journal_model.specs.record_model.declared.values.JournalMax.{JournalMax}
+use Rattle.journal_model.specs.record_model.declared.values.ValueFault.{ValueFault}
+use Rattle.journal_model.specs.record_model.StdValues.{journal_max_of}
+use Rattle.journal_model.specs.record_model.Records.{Record}
+use Rattle.journal_model.specs.record_model.Constants.{data_type}
+use Rattle.volume_model.specs.file_tree.declared.journal.Journal.{Journal}
+use Rattle.volume_model.specs.file_tree.declared.journal.Usn.{Usn}
+use Rattle.volume_model.specs.file_tree.Walks.{child_in}
+use Rattle.volume_model.specs.state_model.declared.stream.Extents.{Extents}
+use Rattle.volume_model.specs.state_model.declared.stream.Stream.{Stream}
+use Rattle.volume_model.specs.state_model.declared.stream.Stream.TheVariants.{Held, Placed}
+use Rattle.volume_model.specs.state_model.Files.{is_sparse}
+use Rattle.volume_model.specs.state_model.Trees.{all_links}
+use Rattle.volume_model.specs.state_model.Streams.{attributes_of, stream_of, byte_at}
 use Rattle.journal_model.specs.Journals.{journal_in, is_owned}
 use Rattle.volume_model.specs.Volumes.{Volume, files_by_number, count_of, file_in}
 use Rattle.volume_model.specs.Sizes.{is_hole}

@@ -1,11 +1,11 @@
 -- The laws of a volume's tree.
 use Rattle.std.specs.Prelude.{◌≡◌, ℕ, map, Some, Ok, Err}
 use Rattle.std.specs.Option.{option_map}
-use Rattle.disk_model.specs.Content.{Content}
-use Rattle.file_tree.specs.declared.tree.Tree.{Tree}
-use Rattle.file_tree.specs.Trees.{without_bytes}
-use Rattle.state_model.specs.declared.broken.Broken.{Broken}
-use Rattle.state_model.specs.declared.geometry.Geometry.{Geometry}
+use Rattle.volume_model.specs.disk_model.Content.{Content}
+use Rattle.volume_model.specs.file_tree.declared.tree.Tree.{Tree}
+use Rattle.volume_model.specs.file_tree.Trees.{without_bytes}
+use Rattle.volume_model.specs.state_model.declared.broken.Broken.{Broken}
+use Rattle.volume_model.specs.state_model.declared.geometry.Geometry.{Geometry}
 use Rattle.volume_model.specs.Volumes.{Volume, volume_of}
 use Rattle.volume_state.specs.Rules.{first_broken}
 use Rattle.volume_state.specs.Trees.{Holds, IsState, checked, without_records}

@@ -1,8 +1,8 @@
 -- The nine rules of a volume, in their order.
 use Rattle.std.specs.Prelude.{ℕ, ◌+◌, max, if◌then◌else◌, Option, Some, None}
-use Rattle.disk_model.specs.Content.{Content}
-use Rattle.state_model.specs.declared.broken.Broken.{Broken}
-use Rattle.state_model.specs.Rules.{keeps_1, keeps_2, keeps_8, broken_or, first_failing}
+use Rattle.volume_model.specs.disk_model.Content.{Content}
+use Rattle.volume_model.specs.state_model.declared.broken.Broken.{Broken}
+use Rattle.volume_model.specs.state_model.Rules.{keeps_1, keeps_2, keeps_8, broken_or, first_failing}
 use Rattle.volume_model.specs.Volumes.{Volume, files_by_number, count_of, table_file, bitmap_file, cluster_bits, upper_of}
 use Rattle.volume_model.specs.Indexes.{keeps_index}
 use Rattle.volume_model.specs.Sizes.{keeps_place, keeps_sizes}

@@ -1,13 +1,13 @@
 -- The tree that a volume stands for, and what a check reports of it.
 use Rattle.std.specs.Prelude.{◌≡◌, ℕ, List, [], Option, Some, None, Result, Ok, Err}
 use Rattle.std.specs.Option.{option_map}
-use Rattle.disk_model.specs.Content.{Content}
-use Rattle.file_tree.specs.declared.node.Node.{Node}
-use Rattle.file_tree.specs.declared.journal.Journal.{Journal}
-use Rattle.file_tree.specs.declared.tree.Tree.{Tree}
-use Rattle.state_model.specs.declared.broken.Broken.{Broken}
-use Rattle.state_model.specs.declared.geometry.Geometry.{Geometry}
-use Rattle.state_model.specs.Trees.{all_links}
+use Rattle.volume_model.specs.disk_model.Content.{Content}
+use Rattle.volume_model.specs.file_tree.declared.node.Node.{Node}
+use Rattle.volume_model.specs.file_tree.declared.journal.Journal.{Journal}
+use Rattle.volume_model.specs.file_tree.declared.tree.Tree.{Tree}
+use Rattle.volume_model.specs.state_model.declared.broken.Broken.{Broken}
+use Rattle.volume_model.specs.state_model.declared.geometry.Geometry.{Geometry}
+use Rattle.volume_model.specs.state_model.Trees.{all_links}
 use Rattle.volume_model.specs.Volumes.{Volume, volume_of, files_by_number, count_of, upper_of}
 use Rattle.volume_model.specs.Nodes.{all_nodes, bare_nodes, spare_numbers, free_clusters}
 use Rattle.volume_state.specs.Journals.{journal_of, some_journal}

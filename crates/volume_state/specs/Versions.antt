@@ -1,13 +1,13 @@
 -- The version of a volume.
 use Rattle.std.specs.Prelude.{ℕ, Bool, ◌&&◌, ◌==◌, find, Option, Some, None, Result, Ok, Err}
-use Rattle.record_model.specs.declared.attribute.OwnForm.{OwnForm}
-use Rattle.record_model.specs.declared.attribute.OwnForm.TheVariants.{Resident, Mapped}
-use Rattle.record_model.specs.declared.attribute.Attr.{Attr}
-use Rattle.record_model.specs.declared.values.VolumeInfo.{VolumeInfo}
-use Rattle.record_model.specs.declared.values.ValueFault.{ValueFault}
-use Rattle.record_model.specs.StdValues.{volume_info_of}
-use Rattle.record_model.specs.Records.{Record}
-use Rattle.record_model.specs.Constants.{volume_information}
+use Rattle.journal_model.specs.record_model.declared.attribute.OwnForm.{OwnForm}
+use Rattle.journal_model.specs.record_model.declared.attribute.OwnForm.TheVariants.{Resident, Mapped}
+use Rattle.journal_model.specs.record_model.declared.attribute.Attr.{Attr}
+use Rattle.journal_model.specs.record_model.declared.values.VolumeInfo.{VolumeInfo}
+use Rattle.journal_model.specs.record_model.declared.values.ValueFault.{ValueFault}
+use Rattle.journal_model.specs.record_model.StdValues.{volume_info_of}
+use Rattle.journal_model.specs.record_model.Records.{Record}
+use Rattle.journal_model.specs.record_model.Constants.{volume_information}
 use Rattle.volume_model.specs.Volumes.{Volume, file_in}
 
 abbrev pub volume_file : ℕ

@@ -10,9 +10,9 @@ use Rattle.flush_policy.specs.declared.facts.StoreStep.{StoreStep}
 use Rattle.flush_policy.specs.declared.facts.StoreStep.TheVariants.{SealPage, WritePage, SyncDevice, WriteOut, BeginCheckpoint, WriteRestart}
 use Rattle.txn_model.specs.Values.{StoreFacts}
 use Rattle.txn_laws.specs.Windows.{lap_behind}
-use Rattle.txn_core.specs.Steps.{HasTurned}
-use Rattle.txn_core.specs.Calls.{is_spelled}
-use Rattle.txn_core.proofs.AfterCalls.{out_log}
+use Rattle.volume_core.specs.txn_core.Steps.{HasTurned}
+use Rattle.volume_core.specs.txn_core.Calls.{is_spelled}
+use Rattle.volume_core.proofs.txn_core.AfterCalls.{out_log}
 
 div_low : (n m k : ℕ) → 0 < k → n ≤ m → n / k ≤ m / k
 div_low n m k some le = let whole = div-mul-le_self n k in le-div (n / k) m k some (omega (arith, whole, le))

@@ -13,11 +13,11 @@ use Rattle.txn_model.specs.Values.{StoreFacts}
 use Rattle.txn_model.specs.Told.{MayTakeStep}
 use Rattle.txn_state.specs.States.{StateOf, facts_of}
 use Rattle.txn_laws.proofs.Choosing.{next_may_be_taken}
-use Rattle.txn_core.specs.Leading.{dirty_blocks}
-use Rattle.txn_core.specs.Steps.{MayTurn, HasTurned}
-use Rattle.txn_core.specs.Turns.{HasNext}
-use Rattle.txn_core.proofs.Leading.{steps_lead_on}
-use Rattle.txn_close.proofs.Drained.{same_next}
+use Rattle.volume_core.specs.txn_core.Leading.{dirty_blocks}
+use Rattle.volume_core.specs.txn_core.Steps.{MayTurn, HasTurned}
+use Rattle.volume_core.specs.txn_core.Turns.{HasNext}
+use Rattle.volume_core.proofs.txn_core.Leading.{steps_lead_on}
+use Rattle.volume_core.proofs.txn_close.Drained.{same_next}
 use Rattle.volume_sync.specs.Rooms.{has_room, may_come, room_step, IsTelling, IsRoomMade}
 
 -- ---- which step it is

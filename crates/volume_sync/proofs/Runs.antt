@@ -14,13 +14,13 @@ use Rattle.txn_model.specs.Told.{KeepsSteps}
 use Rattle.txn_state.specs.States.{facts_of}
 use Rattle.txn_laws.specs.Windows.{AfterWrite, lap_behind}
 use Rattle.txn_laws.proofs.Telling.{waits}
-use Rattle.txn_mount.specs.Mountable.{IsFar}
-use Rattle.txn_core.specs.Kept.{IsKept}
-use Rattle.txn_core.specs.Seen.{TakesStep}
-use Rattle.txn_core.specs.Steps.{AfterTurn}
-use Rattle.txn_close.proofs.Turning.{later_turned}
-use Rattle.resting_states.specs.Turns.{IsTurned}
-use Rattle.crash_trees.specs.Mounting.{MountsAsOne}
+use Rattle.volume_core.specs.txn_mount.Mountable.{IsFar}
+use Rattle.volume_core.specs.txn_core.Kept.{IsKept}
+use Rattle.volume_core.specs.txn_core.Seen.{TakesStep}
+use Rattle.volume_core.specs.txn_core.Steps.{AfterTurn}
+use Rattle.volume_core.proofs.txn_close.Turning.{later_turned}
+use Rattle.volume_core.specs.resting_states.Turns.{IsTurned}
+use Rattle.volume_core.specs.crash_trees.Mounting.{MountsAsOne}
 use Rattle.volume_core.specs.Volumes.{SeenVolume, volume_tree}
 use Rattle.volume_core.specs.Histories.{HasHistory, undurable}
 use Rattle.volume_core.specs.Calls.{TurnsTrees}

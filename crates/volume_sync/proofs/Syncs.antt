@@ -11,9 +11,9 @@ use Rattle.store_model.proofs.Told.{true≢false}
 use Rattle.txn_model.specs.Values.{StoreFacts}
 use Rattle.txn_model.specs.Calls.{sealed_facts, written_facts, synced_facts}
 use Rattle.txn_state.specs.States.{facts_of}
-use Rattle.txn_core.specs.Kept.{IsKept}
-use Rattle.txn_core.specs.Steps.{MayTurn, HasTurned}
-use Rattle.crash_trees.specs.Mounting.{MountsAsOne}
+use Rattle.volume_core.specs.txn_core.Kept.{IsKept}
+use Rattle.volume_core.specs.txn_core.Steps.{MayTurn, HasTurned}
+use Rattle.volume_core.specs.crash_trees.Mounting.{MountsAsOne}
 use Rattle.volume_core.specs.Volumes.{SeenVolume}
 use Rattle.volume_core.specs.Histories.{LeavesTrees}
 use Rattle.volume_sync.specs.Syncs.{sync_step, to_sync, KeepsDirty, LeavesNewest}

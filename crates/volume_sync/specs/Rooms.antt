@@ -8,8 +8,8 @@ use Rattle.flush_policy.specs.declared.facts.StoreStep.TheVariants.{WriteRestart
 use Rattle.flush_policy.specs.Choice.{next_step}
 use Rattle.txn_model.specs.Values.{StoreFacts}
 use Rattle.txn_model.specs.Told.{FactsTold, KeepsSteps}
-use Rattle.txn_core.specs.Kept.{IsKept}
-use Rattle.txn_core.specs.Turns.{HasNext}
+use Rattle.volume_core.specs.txn_core.Kept.{IsKept}
+use Rattle.volume_core.specs.txn_core.Turns.{HasNext}
 
 -- so many pages of the log are free
 abbrev pub has_room : ℕ → Facts → Bool

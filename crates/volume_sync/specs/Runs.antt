@@ -7,10 +7,10 @@ use Rattle.flush_policy.specs.declared.facts.StoreStep.{StoreStep}
 use Rattle.txn_model.specs.Told.{KeepsSteps}
 use Rattle.txn_state.specs.States.{facts_of}
 use Rattle.txn_laws.specs.Windows.{lap_behind}
-use Rattle.txn_mount.specs.Mountable.{IsFar}
-use Rattle.txn_core.specs.Kept.{IsKept}
-use Rattle.resting_states.specs.Turns.{IsTurned}
-use Rattle.crash_trees.specs.Mounting.{MountsAsOne}
+use Rattle.volume_core.specs.txn_mount.Mountable.{IsFar}
+use Rattle.volume_core.specs.txn_core.Kept.{IsKept}
+use Rattle.volume_core.specs.resting_states.Turns.{IsTurned}
+use Rattle.volume_core.specs.crash_trees.Mounting.{MountsAsOne}
 use Rattle.volume_core.specs.Volumes.{SeenVolume, volume_tree}
 use Rattle.volume_core.specs.Histories.{HasHistory, undurable}
 use Rattle.volume_core.specs.Calls.{KeepsHistory, TurnsTrees}

@@ -9,8 +9,8 @@ use Rattle.flush_policy.specs.declared.facts.StoreStep.TheVariants.{SealPage, Wr
 use Rattle.txn_model.specs.Values.{StoreFacts}
 use Rattle.txn_state.specs.States.{facts_of}
 use Rattle.txn_laws.specs.Windows.{lap_behind}
-use Rattle.txn_mount.specs.Mountable.{IsFar}
-use Rattle.crash_trees.specs.Mounting.{MountsAsOne}
+use Rattle.volume_core.specs.txn_mount.Mountable.{IsFar}
+use Rattle.volume_core.specs.crash_trees.Mounting.{MountsAsOne}
 use Rattle.volume_core.specs.Volumes.{SeenVolume}
 use Rattle.volume_core.specs.Histories.{HasHistory}
 

@@ -2,8 +2,8 @@
 ghost use Rattle.host_base.specs.Causes.{FailsByCause};
 ghost use Rattle.txn_state.specs.States.{facts_of};
 ghost use Rattle.txn_model.specs.Told.{KeepsSteps};
-ghost use Rattle.txn_core.specs.Kept.{IsKept};
-ghost use Rattle.txn_core.specs.Steps.{MayTurn, HasTurned};
+ghost use Rattle.volume_core.specs.txn_core.Kept.{IsKept};
+ghost use Rattle.volume_core.specs.txn_core.Steps.{MayTurn, HasTurned};
 ghost use Rattle.volume_sync.specs.Runs.{RunsOn};
 
 use sector_device::Device;

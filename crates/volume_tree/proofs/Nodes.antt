@@ -3,7 +3,7 @@ use Rattle.std.proofs.Common.{◌≡◌, ℕ, ◌+◌, List, [], ◌∷◌, ◌+
 use Rattle.std.specs.List.{range_with_len, filter_map, cons_option}
 use Rattle.std.proofs.lemmas.List.Elements.{filter_map-append}
 use Rattle.record_rules.proofs.Ascents.{range_more}
-use Rattle.file_tree.specs.declared.node.Node.{Node}
+use Rattle.state_model.specs.file_tree.declared.node.Node.{Node}
 
 pub nodes_more : (f : ℕ → Option Node) (n : ℕ) → filter_map f (range_with_len 0 (n + 1)) ≡ filter_map f (range_with_len 0 n) ++ cons_option (f n) []
 nodes_more f n =

@@ -2,7 +2,7 @@
 use Rattle.std.proofs.Common.{◌≡◌, ℕ, ◌+◌, ◌<◌, ◌≤◌, List, [], ◌∷◌, ◌++◌, length, get_or, refl, sym, ap, ◌∙◌, arith}
 use Rattle.std.specs.Prelude.{take}
 use Rattle.std.proofs.lemmas.List.{take_more, take_all}
-use Rattle.record_model.specs.declared.runs.Run.{Run}
+use Rattle.volume_map.specs.record_model.declared.runs.Run.{Run}
 use Rattle.state_model.specs.Loads.{total_clusters}
 
 total-append : (xs ys : List Run) → total_clusters (xs ++ ys) ≡ total_clusters xs + total_clusters ys

@@ -1,6 +1,6 @@
 -- The names of a volume's files, by number.
 use Rattle.std.specs.Prelude.{◌≡◌, ℕ, ◌<◌, List, Option, length, slice_index}
-use Rattle.record_model.specs.Records.{Record}
+use Rattle.volume_map.specs.record_model.Records.{Record}
 use Rattle.state_model.specs.Loads.{table_in}
 use Rattle.record_rules.specs.Links.{links_in}
 use Rattle.record_rules.specs.Counts.{names_at}

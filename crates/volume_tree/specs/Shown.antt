@@ -1,6 +1,6 @@
 -- The data that the nodes of a volume show.
 use Rattle.std.specs.Prelude.{ℕ, if◌then◌else◌, Option, Some, None}
-use Rattle.record_model.specs.Records.{Record}
+use Rattle.volume_map.specs.record_model.Records.{Record}
 use Rattle.state_model.specs.declared.stream.Stream.{Stream}
 use Rattle.state_model.specs.Trees.{is_nameless}
 use Rattle.volume_model.specs.Volumes.{Volume, file_in}

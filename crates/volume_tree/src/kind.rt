@@ -5,10 +5,9 @@ ghost use Rattle.volume_map.specs.Maps.{volume_in};
 ghost use Rattle.volume_model.specs.Nodes.{data_flags, has_sparse_run, why_not, is_unread, is_unchanged, kind_in, shows_data};
 
 use crate::names::NamedVolume;
-use file_record::FileRec;
-use file_tree::{Kind, Link, Why};
-use record_model::{ATTRIBUTE_LIST, REPARSE_POINT};
 use record_rules::{has_type, is_compressed, is_directory_record, is_encrypted, is_sparse};
+use state_model::{Kind, Link, Why};
+use volume_map::{ATTRIBUTE_LIST, FileRec, REPARSE_POINT};
 
 /// What a file's data says of it.
 #[derive(Clone, Copy)]

@@ -17,4 +17,7 @@ mod tree;
 pub use names::{NamedVolume, Names};
 pub use node::{bare_nodes, node_at};
 pub use shown::shown_at;
+pub use state_model::{Broken, ClusterSize, Stream};
 pub use tree::tree_with;
+pub use volume_map::{Head, VolumeMap, first_unmarked, front};
+pub use volume_model::Upcase;

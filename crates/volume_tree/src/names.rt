@@ -2,12 +2,11 @@
 ghost use Rattle.std.specs.Prelude.{◌≡◌, IfOk};
 ghost use Rattle.volume_tree.specs.Named.{AreNamesOf};
 
-use file_record::FileRec;
-use file_tree::LinkList;
 use host_base::Memory;
 use record_rules::{Climber, Ways, counts_in, links_in};
+use state_model::LinkList;
 use std::alloc::Global;
-use volume_map::VolumeMap;
+use volume_map::{FileRec, VolumeMap};
 
 /// The names of a volume's files, and what they say of the ways up from these.
 #[derive(Drop)]

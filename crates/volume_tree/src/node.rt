@@ -2,7 +2,7 @@
 ghost use Rattle.std.specs.Prelude.{◌≡◌, ◌<◌, ◌++◌, [], IfOk, OnOk, length};
 ghost use Rattle.std.specs.List.{range_with_len, filter_map, cons_option};
 ghost use Rattle.state_model.specs.Files.{record_links};
-ghost use Rattle.record_model.specs.Records.{Record as the_record};
+ghost use Rattle.volume_map.specs.record_model.Records.{Record as the_record};
 ghost use Rattle.state_model.specs.Loads.{data_stream};
 ghost use Rattle.volume_map.specs.Maps.{volume_in};
 ghost use Rattle.volume_model.specs.Nodes.{no_bytes, node_with, node_by, node_at, bare_nodes, data_shown, why_not};
@@ -10,13 +10,11 @@ ghost use Rattle.volume_model.specs.Nodes.{no_bytes, node_with, node_by, node_at
 use crate::kind::{Data, kind_in, shows_data, why_not};
 use crate::names::NamedVolume;
 use crate::stream::{clusters_or, data_flags, data_stream, has_hole, size_or, valid_or};
-use file_record::FileRec;
-use file_tree::{FIRST_USER_RECORD, Kind, Link, Node, NodeList, Why};
 use host_base::{Bytes, Memory};
-use record_model::OBJECT_ID;
 use record_rules::{file_at, has_type, info_of, links_of};
-use state_model::Stream;
+use state_model::{FIRST_USER_RECORD, Kind, Link, Node, NodeList, Stream, Why};
 use std::alloc::{AllocError, Global};
+use volume_map::{FileRec, OBJECT_ID};
 
 // The node of this kind that shows this data, without bytes.
 #[tactic(auto, unfolding(volume_model::specs::Nodes::node_with))]

@@ -7,12 +7,11 @@ ghost use Rattle.volume_tree.specs.Shown.{file_shown, shown_at};
 use crate::kind::{Data, kind_in, shows_data};
 use crate::names::NamedVolume;
 use crate::stream::{data_flags, data_stream, has_hole};
-use file_record::FileRec;
-use file_tree::{FIRST_USER_RECORD, Link};
 use host_base::Memory;
 use record_rules::{file_at, links_of};
-use state_model::Stream;
+use state_model::{FIRST_USER_RECORD, Link, Stream};
 use std::alloc::Global;
+use volume_map::FileRec;
 
 // The data that the file with this number and these names shows.
 #[tactic(auto, unfolding(crate::specs::Shown::file_shown))]

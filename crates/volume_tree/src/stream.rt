@@ -6,13 +6,10 @@ ghost use Rattle.volume_model.specs.Volumes.{size_or};
 ghost use Rattle.volume_model.specs.Sizes.{is_hole, has_hole};
 ghost use Rattle.volume_model.specs.Nodes.{data_flags, valid_or, clusters_or};
 
-use file_record::FileRec;
 use host_base::Memory;
-use record_model::{DATA, Run};
 use state_model::Stream;
 use std::alloc::Global;
-use stream_map::{is_hole, real_size, stream_of};
-use volume_map::stream_flags;
+use volume_map::{DATA, FileRec, Run, is_hole, real_size, stream_flags, stream_of};
 
 /// The flags of the unnamed data.
 #[tactic(auto, unfolding(volume_model::specs::Nodes::data_flags))]

@@ -1,6 +1,6 @@
 //! The tree of a volume's files.
 ghost use Rattle.std.specs.Prelude.{◌≡◌, IfOk, length};
-ghost use Rattle.disk_model.specs.Content.{Content as the_content};
+ghost use Rattle.volume_map.specs.disk_model.Content.{Content as the_content};
 ghost use Rattle.state_model.specs.Loads.{table_in};
 ghost use Rattle.state_model.specs.Trees.{all_links};
 ghost use Rattle.volume_model.specs.Nodes.{bare_nodes};
@@ -9,8 +9,8 @@ ghost use Rattle.volume_state.specs.Trees.{tree_with};
 
 use crate::names::NamedVolume;
 use crate::node::bare_nodes;
-use file_tree::{Journal, LinkList, Tree};
 use host_base::Memory;
+use state_model::{Journal, LinkList, Tree};
 use std::alloc::Global;
 use volume_map::spare_numbers;
 

@@ -1,3 +1,8 @@
+pub use Rattle.plans_lead.proofs.plan_owners
+pub use Rattle.plans_lead.proofs.txn_core
+pub use Rattle.plans_lead.proofs.volume_lookup
+pub use Rattle.plans_lead.proofs.volume_mount
+pub use Rattle.put_checks.proofs.state_store
 pub mod Taking
 pub mod Stepping
 pub mod Readying

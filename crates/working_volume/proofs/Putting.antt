@@ -10,30 +10,30 @@ use Rattle.disk_model.specs.Content.{Content}
 use Rattle.sector_device.specs.Moments.{Changes}
 use Rattle.sector_device.specs.Sectors.{IsDiskOf}
 use Rattle.block_view.specs.Changes.{content_after}
-use Rattle.map_change.specs.Parts.{MapParts}
+use Rattle.plans_lead.specs.map_change.Parts.{MapParts}
 use Rattle.state_model.specs.declared.geometry.Geometry.{Geometry}
 use Rattle.volume_model.specs.Volumes.{Volume}
-use Rattle.file_puts.specs.declared.streams.VolumeStreams.{VolumeStreams}
+use Rattle.plans_lead.specs.file_puts.declared.streams.VolumeStreams.{VolumeStreams}
 use Rattle.plans_lead.specs.Leading.{LeadsAsAsked}
 use Rattle.put_checks.specs.Checks.{may_put}
 use Rattle.change_plan.specs.Plans.{IsPlan}
-use Rattle.same_names.specs.Names.{SameNames}
-use Rattle.names_stay.specs.Held.{NamesStay}
+use Rattle.plans_lead.specs.same_names.Names.{SameNames}
+use Rattle.plans_lead.specs.names_stay.Held.{NamesStay}
 use Rattle.tree_model.specs.declared.script.Op.{Op}
 use Rattle.tree_model.specs.declared.reply.Reply.{Reply}
 use Rattle.tree_model.specs.Steps.{is_given_up}
-use Rattle.step_model.specs.Steps.{Step}
-use Rattle.txn_model.specs.Values.{StoreFacts}
-use Rattle.txn_state.specs.States.{StateOf, facts_of, IsStore}
-use Rattle.txn_core.specs.Seen.{Seen}
-use Rattle.txn_core.specs.Views.{present_content}
-use Rattle.state_store.specs.declared.fault.PutFault.{PutFault}
-use Rattle.state_store.specs.Volumes.{geometry_of, HoldsState}
-use Rattle.state_store.specs.Changes.{MayLog, AreApart, LeadsOn}
-use Rattle.state_store.specs.Rooms.{room_in, room_cause}
-use Rattle.state_store.specs.Preparing.{KeepsSeen}
-use Rattle.state_store.specs.Puts.{PutsOver, IsUnknownWhereBroken, HasPutCauses}
-use Rattle.state_store.proofs.Outcomes.{nothing_put}
+use Rattle.plans_lead.specs.step_model.Steps.{Step}
+use Rattle.plans_lead.specs.txn_model.Values.{StoreFacts}
+use Rattle.plans_lead.specs.txn_state.States.{StateOf, facts_of, IsStore}
+use Rattle.plans_lead.specs.txn_core.Seen.{Seen}
+use Rattle.plans_lead.specs.txn_core.Views.{present_content}
+use Rattle.put_checks.specs.state_store.declared.fault.PutFault.{PutFault}
+use Rattle.put_checks.specs.state_store.Volumes.{geometry_of, HoldsState}
+use Rattle.put_checks.specs.state_store.Changes.{MayLog, AreApart, LeadsOn}
+use Rattle.put_checks.specs.state_store.Rooms.{room_in, room_cause}
+use Rattle.put_checks.specs.state_store.Preparing.{KeepsSeen}
+use Rattle.put_checks.specs.state_store.Puts.{PutsOver, IsUnknownWhereBroken, HasPutCauses}
+use Rattle.put_checks.proofs.state_store.Outcomes.{nothing_put}
 use Rattle.change_plan.specs.declared.plan.ChangePlan.{ChangePlan}
 use Rattle.change_plan.specs.States.{is_data_change}
 use Rattle.working_volume.specs.declared.fault.DoFault.{DoFault}

@@ -10,27 +10,27 @@ use Rattle.log_page.specs.declared.places.Extent.{Extent}
 use Rattle.log_page.specs.declared.places.LogPlace.{LogPlace}
 use Rattle.log_reading.specs.Rings.{IsRingPlace}
 use Rattle.log_area.specs.Areas.{page_first}
-use Rattle.image_open.specs.Writing.{found_by}
+use Rattle.plans_lead.specs.image_open.Writing.{found_by}
 use Rattle.state_model.specs.declared.geometry.Geometry.{Geometry}
 use Rattle.record_model.specs.declared.runs.Run.{Run}
 use Rattle.volume_model.specs.Volumes.{Volume}
 use Rattle.volume_model.specs.Owners.{uses}
 use Rattle.stream_laws.specs.Sharing.{stream_at, runs_in}
 use Rattle.stream_laws.proofs.Rewriting.{volume_parts}
-use Rattle.map_change.specs.Parts.{MapParts, parts_of, map_of}
-use Rattle.plan_owners.specs.Agreeing.{log_key}
-use Rattle.spares_at_mount.specs.Mounts.{LiesInLog}
-use Rattle.file_puts.specs.declared.streams.VolumeStreams.{VolumeStreams}
-use Rattle.txn_model.specs.Values.{StoreFacts}
-use Rattle.txn_model.specs.Calls.{begun_facts, changed_facts}
-use Rattle.txn_state.specs.States.{StateOf, facts_of}
-use Rattle.txn_core.specs.Views.{present_on, present_content}
-use Rattle.state_store.specs.declared.fault.PutFault.{PutFault}
-use Rattle.state_store.specs.Volumes.{geometry_of, IsStateOf}
-use Rattle.state_store.specs.Logging.{ChangedBy, StoppedBy}
-use Rattle.state_store.specs.Puts.{PutsContent, PutsMap, PutsFacts, PutsOver}
-use Rattle.state_store.proofs.Following.{next_map, state_after}
-use Rattle.state_store.proofs.Sparing.{place_stays}
+use Rattle.plans_lead.specs.map_change.Parts.{MapParts, parts_of, map_of}
+use Rattle.plans_lead.specs.plan_owners.Agreeing.{log_key}
+use Rattle.plans_lead.specs.spares_at_mount.Mounts.{LiesInLog}
+use Rattle.plans_lead.specs.file_puts.declared.streams.VolumeStreams.{VolumeStreams}
+use Rattle.plans_lead.specs.txn_model.Values.{StoreFacts}
+use Rattle.plans_lead.specs.txn_model.Calls.{begun_facts, changed_facts}
+use Rattle.plans_lead.specs.txn_state.States.{StateOf, facts_of}
+use Rattle.plans_lead.specs.txn_core.Views.{present_on, present_content}
+use Rattle.put_checks.specs.state_store.declared.fault.PutFault.{PutFault}
+use Rattle.put_checks.specs.state_store.Volumes.{geometry_of, IsStateOf}
+use Rattle.put_checks.specs.state_store.Logging.{ChangedBy, StoppedBy}
+use Rattle.put_checks.specs.state_store.Puts.{PutsContent, PutsMap, PutsFacts, PutsOver}
+use Rattle.put_checks.proofs.state_store.Following.{next_map, state_after}
+use Rattle.put_checks.proofs.state_store.Sparing.{place_stays}
 use Rattle.change_plan.specs.States.{HasFewClusters}
 use Rattle.plans_lead.specs.Leading.{HasLogOf, LeadsAsAsked}
 use Rattle.working_volume.specs.Ready.{RunsLieInLog, IsReady, IsTaken}

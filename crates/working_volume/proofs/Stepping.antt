@@ -6,18 +6,18 @@ use Rattle.host_base.specs.Causes.{HasFailed}
 use Rattle.disk_model.specs.declared.block.Change.{Change}
 use Rattle.disk_model.specs.Content.{Content}
 use Rattle.state_model.specs.declared.geometry.Geometry.{Geometry}
-use Rattle.map_change.specs.Parts.{MapParts}
+use Rattle.plans_lead.specs.map_change.Parts.{MapParts}
 use Rattle.block_view.specs.Changes.{content_after}
 use Rattle.tree_model.specs.declared.script.Op.{Op}
 use Rattle.tree_model.specs.declared.script.Op.TheVariants as op
 use Rattle.tree_model.specs.declared.reply.Reply.{Reply}
 use Rattle.tree_model.specs.declared.reply.Reply.TheVariants as reply
 use Rattle.tree_model.specs.Steps.{is_given_up}
-use Rattle.step_model.specs.Steps.{Answer, GivenUp, answer_of, IsDoneIn, IsRefused, StepBy, Step}
-use Rattle.state_store.specs.declared.fault.PutFault.{PutFault}
-use Rattle.state_store.specs.declared.fault.PutFault.TheVariants as faults
-use Rattle.state_store.specs.Volumes.{geometry_of}
-use Rattle.state_store.specs.Puts.{PutsContent, IsUnknownWhereBroken}
+use Rattle.plans_lead.specs.step_model.Steps.{Answer, GivenUp, answer_of, IsDoneIn, IsRefused, StepBy, Step}
+use Rattle.put_checks.specs.state_store.declared.fault.PutFault.{PutFault}
+use Rattle.put_checks.specs.state_store.declared.fault.PutFault.TheVariants as faults
+use Rattle.put_checks.specs.state_store.Volumes.{geometry_of}
+use Rattle.put_checks.specs.state_store.Puts.{PutsContent, IsUnknownWhereBroken}
 use Rattle.change_plan.specs.States.{is_data_change}
 use Rattle.working_volume.specs.declared.fault.DoFault.{DoFault}
 use Rattle.working_volume.specs.declared.fault.DoFault.TheVariants.{NeedsRoom, Unknown}

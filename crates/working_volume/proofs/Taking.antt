@@ -15,20 +15,20 @@ use Rattle.log_page.specs.declared.places.Extent.{Extent}
 use Rattle.volume_model.specs.Volumes.{Volume}
 use Rattle.volume_model.specs.Owners.{uses}
 use Rattle.stream_laws.specs.Sharing.{stream_at, runs_in}
-use Rattle.map_change.specs.Parts.{MapParts}
+use Rattle.plans_lead.specs.map_change.Parts.{MapParts}
 use Rattle.tree_model.specs.declared.script.Op.{Op}
 use Rattle.tree_model.specs.Steps.{is_given_up}
-use Rattle.plan_owners.specs.Agreeing.{log_key}
+use Rattle.plans_lead.specs.plan_owners.Agreeing.{log_key}
 use Rattle.plan_draft.specs.Touching.{rises}
 use Rattle.plan_draft.specs.Finishing.{change_keys}
-use Rattle.file_puts.specs.declared.streams.VolumeStreams.{VolumeStreams}
-use Rattle.writes_keep.specs.Writes.{IsOffLog}
+use Rattle.plans_lead.specs.file_puts.declared.streams.VolumeStreams.{VolumeStreams}
+use Rattle.plans_lead.specs.writes_keep.Writes.{IsOffLog}
 use Rattle.tree_model.specs.declared.reply.Reply.TheVariants as reply
-use Rattle.step_model.specs.Steps.{Step}
-use Rattle.txn_model.specs.Values.{StoreFacts}
-use Rattle.txn_state.specs.States.{StateOf, facts_of}
-use Rattle.txn_core.specs.Views.{present_on, present_content}
-use Rattle.state_store.specs.Volumes.{geometry_of, IsStateOf, SparesState, HoldsState}
+use Rattle.plans_lead.specs.step_model.Steps.{Step}
+use Rattle.plans_lead.specs.txn_model.Values.{StoreFacts}
+use Rattle.plans_lead.specs.txn_state.States.{StateOf, facts_of}
+use Rattle.plans_lead.specs.txn_core.Views.{present_on, present_content}
+use Rattle.put_checks.specs.state_store.Volumes.{geometry_of, IsStateOf, SparesState, HoldsState}
 use Rattle.change_plan.specs.declared.plan.ChangePlan.{ChangePlan}
 use Rattle.change_plan.specs.declared.fault.PlanFault.{PlanFault}
 use Rattle.change_plan.specs.declared.fault.PlanFault.TheVariants.{Fault, Memory, Unknown}

@@ -4,21 +4,21 @@ use Rattle.host_base.specs.Answers.{GivesOrFails}
 use Rattle.disk_model.specs.declared.block.Change.{Change}
 use Rattle.disk_model.specs.Content.{Content}
 use Rattle.sector_device.specs.Moments.{Changes}
-use Rattle.map_change.specs.Parts.{MapParts}
+use Rattle.plans_lead.specs.map_change.Parts.{MapParts}
 use Rattle.tree_model.specs.declared.script.Op.{Op}
-use Rattle.file_puts.specs.declared.streams.VolumeStreams.{VolumeStreams}
+use Rattle.plans_lead.specs.file_puts.declared.streams.VolumeStreams.{VolumeStreams}
 use Rattle.plans_lead.specs.Leading.{LeadsAsAsked}
 use Rattle.tree_model.specs.declared.reply.Reply.{Reply}
 use Rattle.tree_model.specs.declared.reply.Reply.TheVariants as reply
-use Rattle.step_model.specs.Steps.{Step}
-use Rattle.txn_state.specs.States.{StateOf, facts_of}
-use Rattle.txn_core.specs.Views.{present_content}
-use Rattle.state_store.specs.declared.fault.PutFault.{PutFault}
-use Rattle.state_store.specs.declared.fault.PutFault.TheVariants as faults
-use Rattle.state_store.specs.Volumes.{geometry_of}
-use Rattle.state_store.specs.Changes.{MayLog, AreApart, LeadsOn}
-use Rattle.state_store.specs.Puts.{PutsOver}
-use Rattle.state_store.specs.Rooms.{room_in, room_cause}
+use Rattle.plans_lead.specs.step_model.Steps.{Step}
+use Rattle.plans_lead.specs.txn_state.States.{StateOf, facts_of}
+use Rattle.plans_lead.specs.txn_core.Views.{present_content}
+use Rattle.put_checks.specs.state_store.declared.fault.PutFault.{PutFault}
+use Rattle.put_checks.specs.state_store.declared.fault.PutFault.TheVariants as faults
+use Rattle.put_checks.specs.state_store.Volumes.{geometry_of}
+use Rattle.put_checks.specs.state_store.Changes.{MayLog, AreApart, LeadsOn}
+use Rattle.put_checks.specs.state_store.Puts.{PutsOver}
+use Rattle.put_checks.specs.state_store.Rooms.{room_in, room_cause}
 use Rattle.working_volume.specs.declared.fault.DoFault.{DoFault}
 use Rattle.working_volume.specs.declared.fault.DoFault.TheVariants.{NeedsRoom, Unknown}
 

@@ -3,20 +3,20 @@ use Rattle.std.specs.Prelude.{◌≡◌, ℕ, ◌<◌, true, List, length, Optio
 use Rattle.host_base.specs.Causes.{HasFailed}
 use Rattle.sector_device.specs.Moments.{Changes}
 use Rattle.block_view.specs.Changes.{content_after}
-use Rattle.map_change.specs.Parts.{MapParts}
+use Rattle.plans_lead.specs.map_change.Parts.{MapParts}
 use Rattle.tree_model.specs.declared.script.Op.{Op}
 use Rattle.tree_model.specs.declared.reply.Reply.{Reply}
 use Rattle.tree_model.specs.declared.reply.Reply.TheVariants as reply
-use Rattle.file_puts.specs.declared.streams.VolumeStreams.{VolumeStreams}
-use Rattle.step_model.specs.Steps.{Step}
-use Rattle.volume_tree.specs.declared.names.Names.{Names}
-use Rattle.volume_tree.specs.Named.{AreNamesOf}
+use Rattle.plans_lead.specs.file_puts.declared.streams.VolumeStreams.{VolumeStreams}
+use Rattle.plans_lead.specs.step_model.Steps.{Step}
+use Rattle.plans_lead.specs.volume_tree.declared.names.Names.{Names}
+use Rattle.plans_lead.specs.volume_tree.Named.{AreNamesOf}
 use Rattle.change_plan.specs.declared.plan.ChangePlan.{ChangePlan}
 use Rattle.change_plan.specs.States.{is_data_change}
-use Rattle.txn_state.specs.States.{facts_of}
-use Rattle.txn_core.specs.Seen.{Seen}
-use Rattle.txn_core.specs.Views.{present_content}
-use Rattle.state_store.specs.Volumes.{geometry_of, HoldsState}
+use Rattle.plans_lead.specs.txn_state.States.{facts_of}
+use Rattle.plans_lead.specs.txn_core.Seen.{Seen}
+use Rattle.plans_lead.specs.txn_core.Views.{present_content}
+use Rattle.put_checks.specs.state_store.Volumes.{geometry_of, HoldsState}
 use Rattle.working_volume.specs.declared.fault.DoFault.{DoFault}
 use Rattle.working_volume.specs.declared.fault.DoFault.TheVariants.{Unknown}
 use Rattle.working_volume.specs.Ready.{IsReady, IsTaken}

@@ -7,14 +7,14 @@ use Rattle.log_page.specs.declared.places.Extent.{Extent}
 use Rattle.log_page.specs.declared.places.LogPlace.{LogPlace}
 use Rattle.volume_model.specs.Volumes.{Volume}
 use Rattle.volume_model.specs.Owners.{uses}
-use Rattle.volume_mount.specs.Welcome.{IsWelcome}
+use Rattle.plans_lead.specs.volume_mount.Welcome.{IsWelcome}
 use Rattle.stream_laws.specs.Sharing.{stream_at, runs_in}
-use Rattle.map_change.specs.Parts.{MapParts}
-use Rattle.plan_owners.specs.Agreeing.{log_key}
-use Rattle.plan_spares.specs.Plans.{HasOwnLists}
-use Rattle.file_puts.specs.declared.streams.VolumeStreams.{VolumeStreams}
-use Rattle.txn_model.specs.Values.{StoreFacts}
-use Rattle.state_store.specs.Volumes.{geometry_of}
+use Rattle.plans_lead.specs.map_change.Parts.{MapParts}
+use Rattle.plans_lead.specs.plan_owners.Agreeing.{log_key}
+use Rattle.plans_lead.specs.plan_spares.Plans.{HasOwnLists}
+use Rattle.plans_lead.specs.file_puts.declared.streams.VolumeStreams.{VolumeStreams}
+use Rattle.plans_lead.specs.txn_model.Values.{StoreFacts}
+use Rattle.put_checks.specs.state_store.Volumes.{geometry_of}
 use Rattle.change_plan.specs.States.{IsPlannable, HasFewClusters}
 use Rattle.plans_lead.specs.Leading.{HasLogOf, LeadsAsAsked}
 use Rattle.put_checks.specs.Checks.{may_put}

@@ -11,6 +11,11 @@ mod changing;
 mod fault;
 mod planning;
 
+pub use change_plan::{LentView, NamedVolume, Names, Op, Reply, Upcase, VolumeStreams};
 pub use changing::change_over;
 pub use fault::DoFault;
 pub use planning::plan_over;
+pub use plans_lead::{
+    LiveMap, Store, StoreView, VolumeTree, needed_is_all, steps_lead_on, steps_of_trees, steps_stay,
+};
+pub use put_checks::turn_store;

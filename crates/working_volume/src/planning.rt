@@ -1,18 +1,18 @@
 //! The plan of an operation over a store.
 ghost use Rattle.std.specs.Prelude.{◌≡◌, None, true, IfOk, IfSome, IsErrOf, length};
 ghost use Rattle.tree_model.specs.Steps.{IsWithinBounds};
-ghost use Rattle.volume_map.specs.Maps.{IsMapOf, volume_in};
-ghost use Rattle.volume_lookup.specs.Known.{known_tree};
-ghost use Rattle.txn_core.specs.Views.{present_content};
-ghost use Rattle.state_store.specs.Preparing.{KeepsSeen, FailsSeen, CountsSeen};
+ghost use Rattle.plans_lead.specs.volume_map.Maps.{IsMapOf, volume_in};
+ghost use Rattle.plans_lead.specs.volume_lookup.Known.{known_tree};
+ghost use Rattle.plans_lead.specs.txn_core.Views.{present_content};
+ghost use Rattle.put_checks.specs.state_store.Preparing.{KeepsSeen, FailsSeen, CountsSeen};
 ghost use Rattle.change_plan.specs.Faults.{plan_cause};
 ghost use Rattle.change_plan.specs.States.{is_data_change};
 ghost use Rattle.change_plan.specs.Plans.{IsSound, PlansFrom, KnowsFrom};
 
 use change_plan::{ChangePlan, NamedVolume, Op, PlanFault, Upcase, VolumeStreams, plan_change};
+use plans_lead::{Store, StoreView};
 use sector_device::Device;
 use std::alloc::Global;
-use txn_core::{Store, StoreView};
 
 /// The plan of an operation that writes, fills or cuts a file, over the present content of a store,
 /// which is only read, through room for a piece of its device ([`device_view::piece_room`]). What is

@@ -22,16 +22,16 @@ use Rattle.stream_laws.proofs.Placing.{lies_in_used}
 use Rattle.stream_laws.proofs.Rewriting.{volume_parts}
 use Rattle.stream_laws.proofs.Sharing.{stream_of_volume}
 use Rattle.tree_model.specs.declared.script.Op.{Op}
-use Rattle.plan_owners.specs.Kinds.{cluster_of}
-use Rattle.plan_owners.proofs.Outside.{once}
+use Rattle.names_stay.specs.plan_owners.Kinds.{cluster_of}
+use Rattle.names_stay.proofs.plan_owners.Outside.{once}
 use Rattle.plan_bodies.specs.Bodies.{content_with}
 use Rattle.plan_draft.specs.declared.touched.Touched.{Touched}
-use Rattle.plan_edits.specs.Edits.{bitmap_key}
-use Rattle.step_model.specs.Streams.{data_of}
-use Rattle.data_plan.specs.declared.change.DataChange.{DataChange}
-use Rattle.data_plan.specs.Changes.{growth_of}
-use Rattle.file_puts.specs.declared.streams.VolumeStreams.{VolumeStreams}
-use Rattle.file_puts.specs.Written.{WritesBy, HasWritten}
+use Rattle.names_stay.specs.plan_edits.Edits.{bitmap_key}
+use Rattle.names_stay.specs.step_model.Streams.{data_of}
+use Rattle.names_stay.specs.data_plan.declared.change.DataChange.{DataChange}
+use Rattle.names_stay.specs.data_plan.Changes.{growth_of}
+use Rattle.names_stay.specs.file_puts.declared.streams.VolumeStreams.{VolumeStreams}
+use Rattle.names_stay.specs.file_puts.Written.{WritesBy, HasWritten}
 use Rattle.writes_keep.specs.Writes.{IsWrittenIn, IsSetAside}
 use Rattle.writes_keep.proofs.Behind.{IsTouched, user_is, w_per, not_user, same_runs}
 use Rattle.writes_keep.proofs.Used.{unused}

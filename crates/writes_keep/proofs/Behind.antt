@@ -27,7 +27,7 @@ use Rattle.state_model.specs.Streams.{block_at}
 use Rattle.volume_model.specs.Volumes.{Volume, volume_of, count_of, file_in, file_stream, bytes_or, table_file, mirror_file, log_file, bitmap_file, upcase_file, cluster_bits, upper_of, table_or_standard}
 use Rattle.volume_model.specs.Nodes.{some_node, node_at}
 use Rattle.volume_model.specs.Owners.{volume_runs}
-use Rattle.volume_state.specs.Trees.{tree_of}
+use Rattle.names_stay.specs.volume_state.Trees.{tree_of}
 use Rattle.upcase_order.specs.Tables.{upcase_of}
 use Rattle.stream_laws.specs.Frames.{SameBytesInSome, SameRecordIn}
 use Rattle.stream_laws.specs.Owners.{stream_kind, Owns}
@@ -42,34 +42,34 @@ use Rattle.stream_laws.proofs.Framing.{same_slot}
 use Rattle.stream_laws.proofs.Owning.{one_owner}
 use Rattle.stream_laws.proofs.Rewriting.{volume_parts, volume_now, goes_on_itself, edits_in_place, count_is}
 use Rattle.stream_laws.proofs.Tabling.{inside_list, table_runs}
-use Rattle.tree_laws.proofs.Agreeing.{same_upper}
+use Rattle.names_stay.proofs.tree_laws.Agreeing.{same_upper}
 use Rattle.tree_model.specs.declared.script.Op.{Op}
 use Rattle.tree_model.specs.Effects.{changed_node, file_after}
-use Rattle.plan_owners.specs.States.{IsOwnRecord}
-use Rattle.plan_owners.specs.Agreeing.{log_key, list_key}
-use Rattle.plan_owners.proofs.Outside.{once}
-use Rattle.plan_owners.proofs.Standing.{slots, slot_record, some_file, as_file, is_base, begins}
-use Rattle.plan_owners.proofs.Unnamed.{slot_of_base, unnamed}
+use Rattle.names_stay.specs.plan_owners.States.{IsOwnRecord}
+use Rattle.names_stay.specs.plan_owners.Agreeing.{log_key, list_key}
+use Rattle.names_stay.proofs.plan_owners.Outside.{once}
+use Rattle.names_stay.proofs.plan_owners.Standing.{slots, slot_record, some_file, as_file, is_base, begins}
+use Rattle.names_stay.proofs.plan_owners.Unnamed.{slot_of_base, unnamed}
 use Rattle.plan_bodies.specs.Bodies.{NewBody, content_with, body_in, body_or}
 use Rattle.plan_bodies.proofs.Putting.{body_put}
 use Rattle.plan_draft.specs.declared.touched.Touched.{Touched}
-use Rattle.plan_model.specs.Informed.{with_record}
-use Rattle.plan_model.proofs.Drafting.{per_is}
-use Rattle.plan_model.proofs.OneRecord.{OwnRecord, own_record, uncut, file_slot}
-use Rattle.plan_model.proofs.Stepping.{tree_nodes}
-use Rattle.plan_edits.specs.Edits.{bitmap_key}
-use Rattle.plan_changes.proofs.Showing.{files_are}
-use Rattle.step_model.specs.Contents.{same_key, is_among}
-use Rattle.step_model.specs.Placing.{Growth, runs_after}
-use Rattle.step_model.specs.Streams.{data_of}
-use Rattle.data_plan.specs.declared.change.DataChange.{DataChange}
-use Rattle.data_plan.specs.Changes.{growth_of}
-use Rattle.file_puts.specs.declared.streams.VolumeStreams.{VolumeStreams}
-use Rattle.file_puts.specs.Written.{AreStreamsOf, WritesBy, HasWritten}
-use Rattle.written_values.proofs.Growths.{growth_is}
-use Rattle.written_values.proofs.Owning.{IsOwned, is_owned}
-use Rattle.written_values.proofs.Sparing.{elsewhere}
-use Rattle.plan_spares.specs.Plans.{HasOwnLists}
+use Rattle.names_stay.specs.plan_model.Informed.{with_record}
+use Rattle.names_stay.proofs.plan_model.Drafting.{per_is}
+use Rattle.names_stay.proofs.plan_model.OneRecord.{OwnRecord, own_record, uncut, file_slot}
+use Rattle.names_stay.proofs.plan_model.Stepping.{tree_nodes}
+use Rattle.names_stay.specs.plan_edits.Edits.{bitmap_key}
+use Rattle.names_stay.proofs.plan_changes.Showing.{files_are}
+use Rattle.names_stay.specs.step_model.Contents.{same_key, is_among}
+use Rattle.names_stay.specs.step_model.Placing.{Growth, runs_after}
+use Rattle.names_stay.specs.step_model.Streams.{data_of}
+use Rattle.names_stay.specs.data_plan.declared.change.DataChange.{DataChange}
+use Rattle.names_stay.specs.data_plan.Changes.{growth_of}
+use Rattle.names_stay.specs.file_puts.declared.streams.VolumeStreams.{VolumeStreams}
+use Rattle.names_stay.specs.file_puts.Written.{AreStreamsOf, WritesBy, HasWritten}
+use Rattle.names_stay.proofs.written_values.Growths.{growth_is}
+use Rattle.names_stay.proofs.written_values.Owning.{IsOwned, is_owned}
+use Rattle.names_stay.proofs.written_values.Sparing.{elsewhere}
+use Rattle.plans_keep.specs.plan_spares.Plans.{HasOwnLists}
 use Rattle.plans_keep.proofs.Keeping.{put_found}
 use Rattle.writes_keep.proofs.Putting.{GoesTo, data_plain}
 

@@ -5,9 +5,9 @@ use Rattle.file_tree.specs.declared.node.Node.{Node}
 use Rattle.state_model.specs.declared.stream.Extents.{Extents}
 use Rattle.state_model.specs.declared.stream.Stream.TheVariants.{Held, Placed}
 use Rattle.tree_model.specs.declared.script.Op.{Op}
-use Rattle.data_plan.specs.Changes.{data_in, growth_of}
-use Rattle.made_data.specs.Laws.{MadeIsCounted}
-use Rattle.made_data.specs.Made.{made_record, record_with_data, has_data}
+use Rattle.names_stay.specs.data_plan.Changes.{data_in, growth_of}
+use Rattle.names_stay.specs.made_data.Laws.{MadeIsCounted}
+use Rattle.names_stay.specs.made_data.Made.{made_record, record_with_data, has_data}
 
 -- A step says the same of this record as of the file's own, and its unnamed data, where that lies in clusters, is the file's.
 pub record IsDataOf (bits : List Bool) (op : Op) (a : Node) (r via : Record) : Type 0 where

@@ -40,37 +40,37 @@ use Rattle.stream_runs.specs.Runs.{grown, last_cluster}
 use Rattle.space_model.specs.Choosing.{chosen}
 use Rattle.state_streams.specs.Streams.{IsPlacedIn}
 use Rattle.state_streams.proofs.Lying.{sizes_are, few_there}
-use Rattle.tree_laws.proofs.Ascending.{all_by}
+use Rattle.names_stay.proofs.tree_laws.Ascending.{all_by}
 use Rattle.tree_model.specs.declared.script.Op.{Op}
-use Rattle.plan_owners.specs.Agreeing.{IsJudged, log_key}
-use Rattle.plan_owners.specs.Kinds.{cluster_of}
-use Rattle.plan_owners.proofs.ByKind.{in_grid, owned_as, inside}
-use Rattle.plan_owners.proofs.Standing.{begins}
-use Rattle.state_blocks.specs.Needing.{IsNeeded}
-use Rattle.state_blocks.proofs.Needing.{listed_judged}
+use Rattle.names_stay.specs.plan_owners.Agreeing.{IsJudged, log_key}
+use Rattle.names_stay.specs.plan_owners.Kinds.{cluster_of}
+use Rattle.names_stay.proofs.plan_owners.ByKind.{in_grid, owned_as, inside}
+use Rattle.names_stay.proofs.plan_owners.Standing.{begins}
+use Rattle.plans_keep.specs.state_blocks.Needing.{IsNeeded}
+use Rattle.plans_keep.proofs.state_blocks.Needing.{listed_judged}
 use Rattle.plan_bodies.specs.Bodies.{NewBody, content_with}
 use Rattle.plan_draft.specs.declared.touched.Touched.{Touched}
 use Rattle.plan_draft.specs.Touching.{bodies_of, IsOldOf}
 use Rattle.plan_draft.specs.Finishing.{change_start, change_end, changes_of}
 use Rattle.plan_draft.proofs.Same.{all_same}
-use Rattle.plan_model.proofs.OneRecord.{OwnRecord, own_record, slot_begins}
-use Rattle.draft_bits.specs.Filling.{first_past}
-use Rattle.draft_records.specs.Records.{record_block, is_past, has_mirror}
-use Rattle.resized_streams.specs.declared.resized.Resized.{Resized}
-use Rattle.plan_growth.proofs.Choosing.{may_be_taken}
-use Rattle.plan_growth.proofs.Growing.{total-grown}
-use Rattle.plan_edits.specs.Edits.{bitmap_key}
-use Rattle.step_model.specs.Placing.{Growth, more_of, runs_after}
-use Rattle.step_model.specs.Streams.{data_of}
-use Rattle.data_plan.specs.declared.change.DataChange.{DataChange}
-use Rattle.data_plan.specs.Changes.{data_in, growth_of, Grows, StandsBelow, IsChange}
-use Rattle.made_data.specs.Laws.{MadeIsCounted}
-use Rattle.made_data.specs.Made.{record_with_data}
-use Rattle.file_puts.specs.declared.streams.VolumeStreams.{VolumeStreams}
-use Rattle.file_puts.specs.Puts.{first_fresh}
-use Rattle.file_puts.specs.Written.{WritesBy, HasWritten}
-use Rattle.written_values.proofs.Growths.{growth_is}
-use Rattle.plan_spares.specs.Plans.{HasOwnLists}
+use Rattle.names_stay.proofs.plan_model.OneRecord.{OwnRecord, own_record, slot_begins}
+use Rattle.names_stay.specs.draft_bits.Filling.{first_past}
+use Rattle.names_stay.specs.draft_records.Records.{record_block, is_past, has_mirror}
+use Rattle.names_stay.specs.resized_streams.declared.resized.Resized.{Resized}
+use Rattle.state_streams.proofs.plan_growth.Choosing.{may_be_taken}
+use Rattle.state_streams.proofs.plan_growth.Growing.{total-grown}
+use Rattle.names_stay.specs.plan_edits.Edits.{bitmap_key}
+use Rattle.names_stay.specs.step_model.Placing.{Growth, more_of, runs_after}
+use Rattle.names_stay.specs.step_model.Streams.{data_of}
+use Rattle.names_stay.specs.data_plan.declared.change.DataChange.{DataChange}
+use Rattle.names_stay.specs.data_plan.Changes.{data_in, growth_of, Grows, StandsBelow, IsChange}
+use Rattle.names_stay.specs.made_data.Laws.{MadeIsCounted}
+use Rattle.names_stay.specs.made_data.Made.{record_with_data}
+use Rattle.names_stay.specs.file_puts.declared.streams.VolumeStreams.{VolumeStreams}
+use Rattle.names_stay.specs.file_puts.Puts.{first_fresh}
+use Rattle.names_stay.specs.file_puts.Written.{WritesBy, HasWritten}
+use Rattle.names_stay.proofs.written_values.Growths.{growth_is}
+use Rattle.plans_keep.specs.plan_spares.Plans.{HasOwnLists}
 use Rattle.plans_keep.specs.Keeping.{AreFinished, TouchesWell, ChangesKeep, PlansKeep}
 use Rattle.plans_keep.proofs.Keeping.{each_change}
 use Rattle.writes_keep.specs.Writes.{HasWholeSectors, IsOffLog, WriteKeeps, WritesKeep}

@@ -27,19 +27,19 @@ use Rattle.stream_runs.specs.Runs.{grown}
 use Rattle.stream_runs.proofs.Places.{places-grown}
 use Rattle.tree_model.specs.declared.script.Op.{Op}
 use Rattle.tree_model.specs.Needs.{shrinks}
-use Rattle.plan_owners.specs.Agreeing.{IsJudged, log_key}
+use Rattle.names_stay.specs.plan_owners.Agreeing.{IsJudged, log_key}
 use Rattle.plan_draft.specs.declared.touched.Touched.{Touched}
-use Rattle.draft_bits.specs.Filling.{first_past}
-use Rattle.draft_records.specs.Records.{written_record, record_block}
-use Rattle.resized_streams.specs.declared.resized.Resized.{Resized}
-use Rattle.plan_growth.proofs.Alike.{one_cluster}
-use Rattle.step_model.specs.Placing.{Growth, runs_after}
-use Rattle.step_model.specs.Streams.{data_of}
-use Rattle.data_plan.specs.declared.change.DataChange.{DataChange}
-use Rattle.data_plan.specs.declared.change.DataChange.TheVariants as change
-use Rattle.data_plan.specs.Changes.{data_in, Grows, IsChange}
-use Rattle.file_puts.specs.declared.streams.VolumeStreams.{VolumeStreams}
-use Rattle.file_puts.specs.Puts.{PutsFileRecord, PutsFileRuns, PutsFileValue, PutsSizes, PutsSized, PutsChange, first_fresh}
+use Rattle.names_stay.specs.draft_bits.Filling.{first_past}
+use Rattle.names_stay.specs.draft_records.Records.{written_record, record_block}
+use Rattle.names_stay.specs.resized_streams.declared.resized.Resized.{Resized}
+use Rattle.state_streams.proofs.plan_growth.Alike.{one_cluster}
+use Rattle.names_stay.specs.step_model.Placing.{Growth, runs_after}
+use Rattle.names_stay.specs.step_model.Streams.{data_of}
+use Rattle.names_stay.specs.data_plan.declared.change.DataChange.{DataChange}
+use Rattle.names_stay.specs.data_plan.declared.change.DataChange.TheVariants as change
+use Rattle.names_stay.specs.data_plan.Changes.{data_in, Grows, IsChange}
+use Rattle.names_stay.specs.file_puts.declared.streams.VolumeStreams.{VolumeStreams}
+use Rattle.names_stay.specs.file_puts.Puts.{PutsFileRecord, PutsFileRuns, PutsFileValue, PutsSizes, PutsSized, PutsChange, first_fresh}
 use Rattle.writes_keep.proofs.Spelled.{record_spelled}
 use Rattle.writes_keep.proofs.Touching.{IsWell, AreSectors, IsRecord, bytes_well, record_well, resized_well}
 

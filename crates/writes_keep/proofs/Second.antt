@@ -20,12 +20,12 @@ use Rattle.stream_laws.proofs.Owning.{are_one}
 use Rattle.stream_laws.proofs.Placing.{lies}
 use Rattle.stream_laws.proofs.Rewriting.{volume_parts}
 use Rattle.stream_laws.proofs.Tabling.{table_runs}
-use Rattle.tree_laws.proofs.Keeping.{rules_of}
-use Rattle.plan_owners.specs.States.{Stands}
-use Rattle.plan_owners.proofs.Outside.{once}
-use Rattle.plan_owners.proofs.Standing.{rule_4_parts, begins}
-use Rattle.plan_edits.specs.Edits.{bitmap_key}
-use Rattle.step_model.specs.Streams.{data_of}
+use Rattle.names_stay.proofs.tree_laws.Keeping.{rules_of}
+use Rattle.names_stay.specs.plan_owners.States.{Stands}
+use Rattle.names_stay.proofs.plan_owners.Outside.{once}
+use Rattle.names_stay.proofs.plan_owners.Standing.{rule_4_parts, begins}
+use Rattle.names_stay.specs.plan_edits.Edits.{bitmap_key}
+use Rattle.names_stay.specs.step_model.Streams.{data_of}
 use Rattle.writes_keep.proofs.Behind.{IsTouched, table_kind, other_file}
 
 block_with : ℕ → BlockKind → Block

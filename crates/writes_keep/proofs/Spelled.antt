@@ -8,10 +8,10 @@ use Rattle.disk_model.specs.Fixups.{array_at, sector_count, is_in_shape}
 use Rattle.fixup_record.specs.Spellings.{is_sequenced, has_zeros, is_ready, has_spelling}
 use Rattle.record_model.specs.RecordLaws.{RecordIsBody}
 use Rattle.record_model.specs.Records.{Record, record_spelling}
-use Rattle.record_writer.specs.NormalLaws.{FitsByRoom}
-use Rattle.record_writer.proofs.Again.{read_again}
-use Rattle.draft_records.specs.Records.{written_record, written_bytes, fits_room}
-use Rattle.draft_records.proofs.Written.{fits_written, room_full}
+use Rattle.names_stay.specs.record_writer.NormalLaws.{FitsByRoom}
+use Rattle.names_stay.proofs.record_writer.Again.{read_again}
+use Rattle.names_stay.specs.draft_records.Records.{written_record, written_bytes, fits_room}
+use Rattle.names_stay.proofs.draft_records.Written.{fits_written, room_full}
 
 has_room : (r : Record) → fits_room r ≡ Ok tt → written_bytes r ≤ 1024
 has_room r room = elim (cases_lt 1024 (written_bytes r)) [

@@ -16,12 +16,12 @@ use Rattle.state_model.specs.Streams.{block_at}
 use Rattle.stream_laws.proofs.Placing.{lies}
 use Rattle.plan_draft.specs.declared.touched.Touched.{Touched}
 use Rattle.plan_draft.specs.Touching.{block_key, touch_again, touch}
-use Rattle.draft_streams.specs.Parts.{touch_part, touch_sectors, touch_bytes, offset_in, bytes_in, first_sector, sector_count}
-use Rattle.draft_bits.specs.Filling.{PutsBits, first_past}
-use Rattle.draft_runs.specs.Clusters.{PutsClusters, PutsRuns}
-use Rattle.draft_records.specs.Records.{record_block, is_past, has_mirror, touch_if, touch_record}
-use Rattle.resized_streams.specs.declared.resized.Resized.{Resized}
-use Rattle.draft_resized.specs.Resized.{resized_bytes, with_file, PutsResized}
+use Rattle.names_stay.specs.draft_streams.Parts.{touch_part, touch_sectors, touch_bytes, offset_in, bytes_in, first_sector, sector_count}
+use Rattle.names_stay.specs.draft_bits.Filling.{PutsBits, first_past}
+use Rattle.names_stay.specs.draft_runs.Clusters.{PutsClusters, PutsRuns}
+use Rattle.names_stay.specs.draft_records.Records.{record_block, is_past, has_mirror, touch_if, touch_record}
+use Rattle.names_stay.specs.resized_streams.declared.resized.Resized.{Resized}
+use Rattle.names_stay.specs.draft_resized.Resized.{resized_bytes, with_file, PutsResized}
 
 -- where a body goes that is put, what holds where its block isn't fresh, and that it has a spelling
 pub record IsWellPut (Goes Judged : Block → Type 0) (b : Block) (fresh : Bool) (bytes : List ℕ) : Type 0 where

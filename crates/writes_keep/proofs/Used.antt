@@ -20,9 +20,9 @@ use Rattle.volume_model.specs.Sizes.{are_joined, follow, keeps_stream, keeps_str
 use Rattle.volume_model.specs.Owners.{volume_runs, uses}
 use Rattle.stream_laws.specs.Sharing.{StreamKey, stream_at, runs_in}
 use Rattle.stream_laws.proofs.Sharing.{attr_uses, file_uses, attributes_sum, uses-flat_map, uses-none, volume_sum}
-use Rattle.plan_owners.specs.States.{Stands}
-use Rattle.plan_owners.proofs.Outside.{all_at, one_filtered, none_in_all, slice_at, lawful_file}
-use Rattle.plan_owners.proofs.Standing.{file_parts, listed_file, streams_at}
+use Rattle.names_stay.specs.plan_owners.States.{Stands}
+use Rattle.names_stay.proofs.plan_owners.Outside.{all_at, one_filtered, none_in_all, slice_at, lawful_file}
+use Rattle.names_stay.proofs.plan_owners.Standing.{file_parts, listed_file, streams_at}
 
 -- ---- attributes of one stream
 

@@ -15,22 +15,22 @@ use Rattle.state_model.specs.declared.geometry.Geometry.{Geometry}
 use Rattle.state_model.specs.Loads.{boot_block}
 use Rattle.volume_model.specs.Volumes.{Volume, count_of, file_in, cluster_bits, upper_of}
 use Rattle.volume_model.specs.Owners.{uses}
-use Rattle.volume_state.specs.Trees.{tree_of}
+use Rattle.names_stay.specs.volume_state.Trees.{tree_of}
 use Rattle.stream_laws.specs.Sharing.{StreamKey, stream_at, runs_in}
 use Rattle.stream_laws.specs.Tables.{table_key}
 use Rattle.tree_model.specs.declared.script.Op.{Op}
-use Rattle.plan_owners.specs.Agreeing.{IsJudged, log_key}
-use Rattle.plan_owners.specs.Kinds.{cluster_of}
+use Rattle.names_stay.specs.plan_owners.Agreeing.{IsJudged, log_key}
+use Rattle.names_stay.specs.plan_owners.Kinds.{cluster_of}
 use Rattle.plan_bodies.specs.Bodies.{NewBody, content_with}
 use Rattle.plan_draft.specs.declared.touched.Touched.{Touched}
-use Rattle.plan_spares.specs.Plans.{HasOwnLists}
-use Rattle.plan_edits.specs.Edits.{bitmap_key}
+use Rattle.plans_keep.specs.plan_spares.Plans.{HasOwnLists}
+use Rattle.names_stay.specs.plan_edits.Edits.{bitmap_key}
 use Rattle.plans_keep.specs.Keeping.{AreFinished, ChangesKeep}
-use Rattle.data_plan.specs.declared.change.DataChange.{DataChange}
-use Rattle.data_plan.specs.Changes.{growth_of}
-use Rattle.made_data.specs.Made.{record_with_data}
-use Rattle.file_puts.specs.declared.streams.VolumeStreams.{VolumeStreams}
-use Rattle.file_puts.specs.Written.{AreStreamsOf, WritesBy, HasWritten}
+use Rattle.names_stay.specs.data_plan.declared.change.DataChange.{DataChange}
+use Rattle.names_stay.specs.data_plan.Changes.{growth_of}
+use Rattle.names_stay.specs.made_data.Made.{record_with_data}
+use Rattle.names_stay.specs.file_puts.declared.streams.VolumeStreams.{VolumeStreams}
+use Rattle.names_stay.specs.file_puts.Written.{AreStreamsOf, WritesBy, HasWritten}
 
 -- no sector by which the state is judged is torn
 abbrev pub HasWholeSectors : Content → Volume → Type 0

@@ -1,7 +1,7 @@
 //! The laws of these definitions.
 ghost use Rattle.writes_keep.specs.Writes.{WritesKeep};
 
-use made_data::made_is_counted;
+use names_stay::made_is_counted;
 use plans_keep::plans_keep;
 use record_model::record_is_body;
 

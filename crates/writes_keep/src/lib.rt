@@ -7,3 +7,6 @@
 mod laws;
 
 pub use laws::writes_keep;
+pub use names_stay::{
+    names_stay, steps_of_trees, steps_stay, writes_keep_lists, writes_keep_names,
+};

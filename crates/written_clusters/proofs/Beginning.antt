@@ -9,22 +9,22 @@ use Rattle.record_model.specs.Records.{Record}
 use Rattle.file_tree.specs.declared.node.Node.{Node}
 use Rattle.state_model.specs.declared.geometry.Geometry.{Geometry}
 use Rattle.state_model.specs.declared.stream.Extents.{Extents}
-use Rattle.volume_model.specs.Volumes.{Volume, cluster_bits}
-use Rattle.volume_state.specs.Trees.{tree_of}
+use Rattle.written_values.specs.volume_model.Volumes.{Volume, cluster_bits}
+use Rattle.written_values.specs.volume_state.Trees.{tree_of}
 use Rattle.tree_model.specs.declared.script.Op.{Op}
 use Rattle.tree_model.specs.Needs.{needed}
-use Rattle.plan_owners.specs.States.{Stands}
+use Rattle.written_values.specs.plan_owners.States.{Stands}
 use Rattle.plan_draft.specs.declared.touched.Touched.{Touched}
 use Rattle.plan_draft.specs.Touching.{rises, IsWhole}
 use Rattle.plan_draft.specs.Drafts.{drafted}
-use Rattle.plan_model.specs.Drafts.{FollowsOwners}
-use Rattle.draft_bits.specs.Effects.{IsKept}
-use Rattle.plan_changes.specs.Files.{IsChangeable, with_own}
-use Rattle.plan_changes.specs.Nodes.{NodeBecomes}
-use Rattle.plan_changes.proofs.Becoming.{nodes_are}
-use Rattle.plan_changes.proofs.Showing.{files_are}
-use Rattle.step_model.specs.Placing.{Growth}
-use Rattle.file_puts.specs.Written.{HasWritten}
+use Rattle.written_values.specs.plan_model.Drafts.{FollowsOwners}
+use Rattle.written_values.specs.draft_bits.Effects.{IsKept}
+use Rattle.written_values.specs.plan_changes.Files.{IsChangeable, with_own}
+use Rattle.written_values.specs.plan_changes.Nodes.{NodeBecomes}
+use Rattle.written_values.proofs.plan_changes.Becoming.{nodes_are}
+use Rattle.written_values.proofs.plan_changes.Showing.{files_are}
+use Rattle.written_values.specs.step_model.Placing.{Growth}
+use Rattle.written_values.specs.file_puts.Written.{HasWritten}
 use Rattle.written_clusters.proofs.Chaining.{none_drafted, PutsTo}
 use Rattle.written_clusters.proofs.Left.{GrowsData, is_left}
 use Rattle.written_clusters.proofs.Sizes.{EndsSizes}

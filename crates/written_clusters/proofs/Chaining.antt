@@ -16,23 +16,23 @@ use Rattle.state_model.specs.declared.geometry.Geometry.{Geometry}
 use Rattle.state_model.specs.declared.stream.Extents.{Extents}
 use Rattle.state_model.specs.declared.stream.Stream.{Stream}
 use Rattle.state_model.specs.Streams.{block_at}
-use Rattle.volume_model.specs.Volumes.{Volume, mirror_file, bitmap_file}
-use Rattle.stream_laws.specs.Owners.{stream_kind}
-use Rattle.stream_laws.specs.Sharing.{StreamKey, stream_at, runs_in}
-use Rattle.plan_owners.specs.States.{Stands}
+use Rattle.written_values.specs.volume_model.Volumes.{Volume, mirror_file, bitmap_file}
+use Rattle.written_values.specs.stream_laws.Owners.{stream_kind}
+use Rattle.written_values.specs.stream_laws.Sharing.{StreamKey, stream_at, runs_in}
+use Rattle.written_values.specs.plan_owners.States.{Stands}
 use Rattle.plan_bodies.specs.Bodies.{NewBody, content_with, put_bodies}
 use Rattle.plan_bodies.proofs.Putting.{body_put, all_in_both, contents_put}
 use Rattle.plan_draft.specs.declared.touched.Touched.{Touched}
 use Rattle.plan_draft.specs.Touching.{bodies_of}
 use Rattle.plan_draft.specs.Drafts.{drafted}
 use Rattle.plan_draft.specs.Same.{PutSame}
-use Rattle.plan_model.specs.Drafts.{DraftIn, GoesOn, gives_none}
-use Rattle.plan_model.specs.Edits.{IsOwnedIn}
-use Rattle.plan_model.specs.Informed.{with_record}
-use Rattle.plan_model.proofs.Drafting.{begins_empty, goes_on}
-use Rattle.plan_growth.specs.Streams.{key_of, marks_streams}
-use Rattle.plan_edits.specs.Moves.{EditsDraft}
-use Rattle.plan_edits.proofs.Putting.{drafts_put}
+use Rattle.written_values.specs.plan_model.Drafts.{DraftIn, GoesOn, gives_none}
+use Rattle.written_values.specs.plan_model.Edits.{IsOwnedIn}
+use Rattle.written_values.specs.plan_model.Informed.{with_record}
+use Rattle.written_values.proofs.plan_model.Drafting.{begins_empty, goes_on}
+use Rattle.state_streams.specs.plan_growth.Streams.{key_of, marks_streams}
+use Rattle.written_values.specs.plan_edits.Moves.{EditsDraft}
+use Rattle.written_values.proofs.plan_edits.Putting.{drafts_put}
 use Rattle.written_clusters.proofs.Staying.{elsewhere}
 
 -- the draft that touched nothing has the content

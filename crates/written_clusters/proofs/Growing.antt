@@ -24,64 +24,64 @@ use Rattle.state_model.specs.Files.{has_type}
 use Rattle.state_model.specs.Loads.{total_clusters, extents_or}
 use Rattle.state_model.specs.Streams.{block_at}
 use Rattle.state_streams.proofs.Counting.{few_clusters}
-use Rattle.volume_model.specs.Volumes.{Volume, file_stream, cluster_bits, size_or, bytes_or}
-use Rattle.volume_model.specs.Nodes.{valid_or, clusters_or}
-use Rattle.volume_model.specs.Owners.{uses}
-use Rattle.volume_model.specs.Sizes.{has_hole, is_hole, has_sizes, lies_inside}
-use Rattle.volume_state.specs.Trees.{tree_of}
+use Rattle.written_values.specs.volume_model.Volumes.{Volume, file_stream, cluster_bits, size_or, bytes_or}
+use Rattle.written_values.specs.volume_model.Nodes.{valid_or, clusters_or}
+use Rattle.written_values.specs.volume_model.Owners.{uses}
+use Rattle.written_values.specs.volume_model.Sizes.{has_hole, is_hole, has_sizes, lies_inside}
+use Rattle.written_values.specs.volume_state.Trees.{tree_of}
 use Rattle.tree_model.specs.declared.script.Op.{Op}
 use Rattle.tree_model.specs.Needs.{shrinks, needed, size_after, clusters_for, bytes_part}
 use Rattle.tree_model.proofs.FileNeeds.{needs_of_change}
-use Rattle.stream_laws.specs.Owners.{stream_kind}
-use Rattle.stream_laws.specs.Places.{AreOnce}
-use Rattle.stream_laws.specs.Sharing.{StreamKey, stream_at, runs_in}
-use Rattle.stream_laws.proofs.Sharing.{stream_once}
-use Rattle.stream_runs.specs.Runs.{last_cluster, grown}
-use Rattle.stream_runs.proofs.Merging.{follow-grown}
-use Rattle.plan_owners.specs.States.{Stands}
-use Rattle.plan_owners.proofs.ByKind.{marked}
-use Rattle.plan_owners.proofs.Outside.{once}
+use Rattle.written_values.specs.stream_laws.Owners.{stream_kind}
+use Rattle.written_values.specs.stream_laws.Places.{AreOnce}
+use Rattle.written_values.specs.stream_laws.Sharing.{StreamKey, stream_at, runs_in}
+use Rattle.written_values.proofs.stream_laws.Sharing.{stream_once}
+use Rattle.written_values.specs.stream_runs.Runs.{last_cluster, grown}
+use Rattle.written_values.proofs.stream_runs.Merging.{follow-grown}
+use Rattle.written_values.specs.plan_owners.States.{Stands}
+use Rattle.written_values.proofs.plan_owners.ByKind.{marked}
+use Rattle.written_values.proofs.plan_owners.Outside.{once}
 use Rattle.plan_bodies.specs.Bodies.{NewBody, put_bodies}
 use Rattle.plan_bodies.proofs.Putting.{sized_with}
 use Rattle.plan_draft.specs.declared.touched.Touched.{Touched}
 use Rattle.plan_draft.specs.Drafts.{drafted}
-use Rattle.plan_model.specs.Drafts.{gives_none, gives_runs}
-use Rattle.plan_model.specs.Edits.{IsOwnedIn}
-use Rattle.plan_model.specs.Informed.{with_record}
-use Rattle.plan_model.proofs.Drafting.{per_is}
-use Rattle.draft_records.specs.Records.{written_record}
-use Rattle.draft_resized.specs.Resized.{PutsResized}
-use Rattle.draft_resized.proofs.FileEffects.{resized_put}
-use Rattle.record_streams.specs.Placing.{placed_record}
-use Rattle.record_times.specs.Laws.{TimesAreSet}
-use Rattle.resized_streams.specs.declared.resized.Resized.{Resized}
-use Rattle.resized_streams.specs.Resizing.{lengthened, IsGrown}
-use Rattle.plan_growth.specs.Streams.{IsOwnStream, IsWritten, MayTake, key_of, marks_streams}
-use Rattle.plan_growth.specs.Growing.{GrowsStream, MayGive}
-use Rattle.plan_growth.specs.Trees.{TreeFollows}
-use Rattle.plan_growth.proofs.Choosing.{may_be_taken}
-use Rattle.plan_growth.proofs.Growing.{total-grown, uses-grown, grown_leads, grown_goes_on, grown_tree, grown_bytes}
-use Rattle.plan_growth.proofs.Resizing.{clusters_are as as_many, not_marked}
-use Rattle.plan_growth.proofs.Ruled.{stream_fits, sizes_lawful}
-use Rattle.plan_growth.proofs.Runs.{grown_inside, grown_whole}
-use Rattle.plan_edits.specs.Edits.{mirror_key, PutsOfVolume, IsEdit}
-use Rattle.plan_edits.proofs.Bitmap.{state_bitmap}
-use Rattle.plan_edits.proofs.Editing.{resized_edit}
-use Rattle.plan_edits.proofs.Putting.{each_turned}
-use Rattle.plan_changes.specs.Files.{own_data, Shows, with_own, Follows}
-use Rattle.plan_changes.specs.Going.{GoesOnIn}
-use Rattle.plan_changes.specs.Nodes.{NodeBecomes}
-use Rattle.plan_changes.proofs.Falling.{rooms_are}
-use Rattle.plan_changes.proofs.Going.{files_going}
-use Rattle.plan_changes.proofs.Showing.{files_are}
-use Rattle.step_model.specs.Placing.{Growth, more_of}
-use Rattle.step_model.specs.Streams.{Comes, wanted_data, placed_among}
-use Rattle.data_plan.specs.declared.change.DataChange.TheVariants as change
-use Rattle.data_plan.specs.Changes.{StandsBelow, growth_of}
-use Rattle.data_plan.proofs.Cases.{placed_comes, runs_grown}
-use Rattle.file_puts.specs.declared.streams.VolumeStreams.{VolumeStreams}
-use Rattle.file_puts.specs.Puts.{PutsGrowing}
-use Rattle.file_puts.specs.Written.{WritesFile, HasWritten}
+use Rattle.written_values.specs.plan_model.Drafts.{gives_none, gives_runs}
+use Rattle.written_values.specs.plan_model.Edits.{IsOwnedIn}
+use Rattle.written_values.specs.plan_model.Informed.{with_record}
+use Rattle.written_values.proofs.plan_model.Drafting.{per_is}
+use Rattle.written_values.specs.draft_records.Records.{written_record}
+use Rattle.written_values.specs.draft_resized.Resized.{PutsResized}
+use Rattle.written_values.proofs.draft_resized.FileEffects.{resized_put}
+use Rattle.written_values.specs.record_streams.Placing.{placed_record}
+use Rattle.written_values.specs.record_times.Laws.{TimesAreSet}
+use Rattle.written_values.specs.resized_streams.declared.resized.Resized.{Resized}
+use Rattle.written_values.specs.resized_streams.Resizing.{lengthened, IsGrown}
+use Rattle.state_streams.specs.plan_growth.Streams.{IsOwnStream, IsWritten, MayTake, key_of, marks_streams}
+use Rattle.state_streams.specs.plan_growth.Growing.{GrowsStream, MayGive}
+use Rattle.state_streams.specs.plan_growth.Trees.{TreeFollows}
+use Rattle.state_streams.proofs.plan_growth.Choosing.{may_be_taken}
+use Rattle.state_streams.proofs.plan_growth.Growing.{total-grown, uses-grown, grown_leads, grown_goes_on, grown_tree, grown_bytes}
+use Rattle.state_streams.proofs.plan_growth.Resizing.{clusters_are as as_many, not_marked}
+use Rattle.state_streams.proofs.plan_growth.Ruled.{stream_fits, sizes_lawful}
+use Rattle.state_streams.proofs.plan_growth.Runs.{grown_inside, grown_whole}
+use Rattle.written_values.specs.plan_edits.Edits.{mirror_key, PutsOfVolume, IsEdit}
+use Rattle.written_values.proofs.plan_edits.Bitmap.{state_bitmap}
+use Rattle.written_values.proofs.plan_edits.Editing.{resized_edit}
+use Rattle.written_values.proofs.plan_edits.Putting.{each_turned}
+use Rattle.written_values.specs.plan_changes.Files.{own_data, Shows, with_own, Follows}
+use Rattle.written_values.specs.plan_changes.Going.{GoesOnIn}
+use Rattle.written_values.specs.plan_changes.Nodes.{NodeBecomes}
+use Rattle.written_values.proofs.plan_changes.Falling.{rooms_are}
+use Rattle.written_values.proofs.plan_changes.Going.{files_going}
+use Rattle.written_values.proofs.plan_changes.Showing.{files_are}
+use Rattle.written_values.specs.step_model.Placing.{Growth, more_of}
+use Rattle.written_values.specs.step_model.Streams.{Comes, wanted_data, placed_among}
+use Rattle.written_values.specs.data_plan.declared.change.DataChange.TheVariants as change
+use Rattle.written_values.specs.data_plan.Changes.{StandsBelow, growth_of}
+use Rattle.written_values.proofs.data_plan.Cases.{placed_comes, runs_grown}
+use Rattle.written_values.specs.file_puts.declared.streams.VolumeStreams.{VolumeStreams}
+use Rattle.written_values.specs.file_puts.Puts.{PutsGrowing}
+use Rattle.written_values.specs.file_puts.Written.{WritesFile, HasWritten}
 use Rattle.written_clusters.specs.Done.{HasClusters, GrowthIsDone}
 use Rattle.written_clusters.proofs.Known.{shown, user, apart, no_mirror, whole, informed, own_stream, plain}
 use Rattle.written_clusters.proofs.Staying.{types_stay, which_stays}

@@ -15,23 +15,23 @@ use Rattle.state_model.specs.Files.{is_directory_record, has_type, record_links}
 use Rattle.state_model.specs.Loads.{data_stream}
 use Rattle.state_model.specs.Rules.{implies, at_file, keeps_names, keeps_1}
 use Rattle.state_model.specs.Trees.{is_system}
-use Rattle.volume_model.specs.Volumes.{Volume, count_of, files_by_number, table_file, mirror_file}
-use Rattle.volume_model.specs.Nodes.{data_flags, has_sparse_run, is_unread, is_unchanged, kind_in, shows_data}
+use Rattle.written_values.specs.volume_model.Volumes.{Volume, count_of, files_by_number, table_file, mirror_file}
+use Rattle.written_values.specs.volume_model.Nodes.{data_flags, has_sparse_run, is_unread, is_unchanged, kind_in, shows_data}
 use Rattle.state_model.specs.Files.{is_sparse}
-use Rattle.volume_model.specs.Sizes.{has_hole}
-use Rattle.volume_state.specs.Rules.{broken_1}
-use Rattle.stream_laws.specs.Owners.{stream_kind}
-use Rattle.stream_laws.proofs.Tabling.{inside_list}
-use Rattle.tree_laws.proofs.Keeping.{rules_of, passes_below}
-use Rattle.plan_owners.specs.States.{Stands}
-use Rattle.plan_owners.proofs.Standing.{some_file}
-use Rattle.plan_model.specs.Informed.{IsApart}
-use Rattle.plan_growth.specs.Streams.{IsOwnStream, key_of}
-use Rattle.plan_growth.proofs.Resizing.{no_system_shown}
-use Rattle.plan_values.specs.Values.{IsOwnFile}
-use Rattle.plan_values.proofs.Valued.{entries_named}
-use Rattle.plan_changes.specs.Files.{IsChangeable, own_data, Shows}
-use Rattle.plan_changes.proofs.Showing.{files_are}
+use Rattle.written_values.specs.volume_model.Sizes.{has_hole}
+use Rattle.written_values.specs.volume_state.Rules.{broken_1}
+use Rattle.written_values.specs.stream_laws.Owners.{stream_kind}
+use Rattle.written_values.proofs.stream_laws.Tabling.{inside_list}
+use Rattle.written_values.proofs.tree_laws.Keeping.{rules_of, passes_below}
+use Rattle.written_values.specs.plan_owners.States.{Stands}
+use Rattle.written_values.proofs.plan_owners.Standing.{some_file}
+use Rattle.written_values.specs.plan_model.Informed.{IsApart}
+use Rattle.state_streams.specs.plan_growth.Streams.{IsOwnStream, key_of}
+use Rattle.state_streams.proofs.plan_growth.Resizing.{no_system_shown}
+use Rattle.written_values.specs.plan_values.Values.{IsOwnFile}
+use Rattle.written_values.proofs.plan_values.Valued.{entries_named}
+use Rattle.written_values.specs.plan_changes.Files.{IsChangeable, own_data, Shows}
+use Rattle.written_values.proofs.plan_changes.Showing.{files_are}
 
 -- a kind is that of a file where none of the others applies
 file_tests : (d s u x : Bool) → cond d Directory (cond s System (cond u Opaque (cond x Fixed File))) ≡ File → (d ≡ false) × (x ≡ false)

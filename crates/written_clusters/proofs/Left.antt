@@ -15,20 +15,20 @@ use Rattle.state_model.specs.declared.stream.Stream.{Stream}
 use Rattle.state_model.specs.declared.stream.Stream.TheVariants.{Placed}
 use Rattle.state_model.specs.Streams.{block_at}
 use Rattle.space_model.specs.Choosing.{chosen}
-use Rattle.volume_model.specs.Volumes.{Volume, cluster_bits, table_file, mirror_file, bitmap_file}
-use Rattle.volume_model.specs.Owners.{uses}
-use Rattle.stream_laws.specs.Owners.{stream_kind}
-use Rattle.stream_laws.specs.Sharing.{StreamKey, stream_at, runs_in}
-use Rattle.stream_laws.specs.Tables.{table_key}
-use Rattle.stream_runs.specs.Runs.{last_cluster}
+use Rattle.written_values.specs.volume_model.Volumes.{Volume, cluster_bits, table_file, mirror_file, bitmap_file}
+use Rattle.written_values.specs.volume_model.Owners.{uses}
+use Rattle.written_values.specs.stream_laws.Owners.{stream_kind}
+use Rattle.written_values.specs.stream_laws.Sharing.{StreamKey, stream_at, runs_in}
+use Rattle.written_values.specs.stream_laws.Tables.{table_key}
+use Rattle.written_values.specs.stream_runs.Runs.{last_cluster}
 use Rattle.plan_bodies.specs.Bodies.{NewBody, AreBodies, content_with}
-use Rattle.plan_model.specs.Drafts.{FollowsOwners}
-use Rattle.plan_growth.specs.Streams.{key_of, marks_streams}
-use Rattle.plan_edits.proofs.Putting.{each_turned}
-use Rattle.step_model.specs.Placing.{Growth, more_of, runs_after}
-use Rattle.step_model.specs.Used.{is_in_record}
-use Rattle.step_model.specs.Contents.{same_key, is_among, is_touched, touched_streams, MayDiffer, IsLeft}
-use Rattle.step_model.proofs.Leaving.{contents_left}
+use Rattle.written_values.specs.plan_model.Drafts.{FollowsOwners}
+use Rattle.state_streams.specs.plan_growth.Streams.{key_of, marks_streams}
+use Rattle.written_values.proofs.plan_edits.Putting.{each_turned}
+use Rattle.written_values.specs.step_model.Placing.{Growth, more_of, runs_after}
+use Rattle.written_values.specs.step_model.Used.{is_in_record}
+use Rattle.written_values.specs.step_model.Contents.{same_key, is_among, is_touched, touched_streams, MayDiffer, IsLeft}
+use Rattle.written_values.proofs.step_model.Leaving.{contents_left}
 use Rattle.written_clusters.proofs.Chaining.{mark_file, PutsTo}
 
 -- the data of the file has taken its clusters by the growth, and all other streams have those of before

@@ -1,3 +1,20 @@
+pub use Rattle.state_streams.proofs.plan_growth
+pub use Rattle.written_values.proofs as written_values
+pub use Rattle.written_values.proofs.change_steps
+pub use Rattle.written_values.proofs.draft_records
+pub use Rattle.written_values.proofs.draft_resized
+pub use Rattle.written_values.proofs.plan_changes
+pub use Rattle.written_values.proofs.plan_informed
+pub use Rattle.written_values.proofs.plan_model
+pub use Rattle.written_values.proofs.plan_owners
+pub use Rattle.written_values.proofs.plan_values
+pub use Rattle.written_values.proofs.record_streams
+pub use Rattle.written_values.proofs.resized_streams
+pub use Rattle.written_values.proofs.step_model
+pub use Rattle.written_values.proofs.stream_laws
+pub use Rattle.written_values.proofs.stream_map
+pub use Rattle.written_values.proofs.tree_laws
+pub use Rattle.written_values.proofs.used_laws
 pub mod Known
 pub mod Staying
 pub mod Chaining

@@ -11,32 +11,32 @@ use Rattle.state_model.specs.declared.geometry.Geometry.{Geometry}
 use Rattle.state_model.specs.declared.stream.Extents.{Extents}
 use Rattle.state_model.specs.declared.stream.Stream.TheVariants.{Placed}
 use Rattle.state_model.specs.Loads.{total_clusters}
-use Rattle.volume_model.specs.Volumes.{Volume, file_stream, cluster_bits, size_or, bytes_or}
-use Rattle.volume_model.specs.Nodes.{valid_or, clusters_or}
-use Rattle.volume_model.specs.Owners.{uses}
-use Rattle.volume_model.specs.Sizes.{has_hole}
-use Rattle.volume_state.specs.Trees.{tree_of}
+use Rattle.written_values.specs.volume_model.Volumes.{Volume, file_stream, cluster_bits, size_or, bytes_or}
+use Rattle.written_values.specs.volume_model.Nodes.{valid_or, clusters_or}
+use Rattle.written_values.specs.volume_model.Owners.{uses}
+use Rattle.written_values.specs.volume_model.Sizes.{has_hole}
+use Rattle.written_values.specs.volume_state.Trees.{tree_of}
 use Rattle.tree_model.specs.declared.script.Op.{Op}
 use Rattle.tree_model.specs.Needs.{shrinks, needed, size_after, clusters_for}
-use Rattle.stream_laws.specs.Sharing.{stream_at, runs_in}
-use Rattle.stream_laws.proofs.Sharing.{uses-none}
-use Rattle.stream_runs.specs.Runs.{last_cluster}
+use Rattle.written_values.specs.stream_laws.Sharing.{stream_at, runs_in}
+use Rattle.written_values.proofs.stream_laws.Sharing.{uses-none}
+use Rattle.written_values.specs.stream_runs.Runs.{last_cluster}
 use Rattle.plan_draft.specs.declared.touched.Touched.{Touched}
 use Rattle.plan_draft.specs.Drafts.{drafted}
-use Rattle.plan_model.specs.Drafts.{gives_none}
-use Rattle.plan_model.proofs.Drafting.{per_is}
-use Rattle.record_times.specs.Laws.{TimesAreSet}
-use Rattle.resized_streams.specs.declared.resized.Resized.{Resized}
-use Rattle.plan_growth.specs.Streams.{key_of}
-use Rattle.plan_changes.specs.Files.{own_data, Shows}
-use Rattle.step_model.specs.Placing.{Growth, more_of}
-use Rattle.step_model.specs.Streams.{Comes, wanted_data, placed_among}
-use Rattle.data_plan.specs.declared.change.DataChange.TheVariants as change
-use Rattle.data_plan.specs.Changes.{StandsBelow, growth_of}
-use Rattle.data_plan.proofs.Cases.{placed_comes, runs_same}
-use Rattle.file_puts.specs.declared.streams.VolumeStreams.{VolumeStreams}
-use Rattle.file_puts.specs.Puts.{PutsLonger, PutsSized}
-use Rattle.file_puts.specs.Written.{WritesFile, HasWritten}
+use Rattle.written_values.specs.plan_model.Drafts.{gives_none}
+use Rattle.written_values.proofs.plan_model.Drafting.{per_is}
+use Rattle.written_values.specs.record_times.Laws.{TimesAreSet}
+use Rattle.written_values.specs.resized_streams.declared.resized.Resized.{Resized}
+use Rattle.state_streams.specs.plan_growth.Streams.{key_of}
+use Rattle.written_values.specs.plan_changes.Files.{own_data, Shows}
+use Rattle.written_values.specs.step_model.Placing.{Growth, more_of}
+use Rattle.written_values.specs.step_model.Streams.{Comes, wanted_data, placed_among}
+use Rattle.written_values.specs.data_plan.declared.change.DataChange.TheVariants as change
+use Rattle.written_values.specs.data_plan.Changes.{StandsBelow, growth_of}
+use Rattle.written_values.proofs.data_plan.Cases.{placed_comes, runs_same}
+use Rattle.written_values.specs.file_puts.declared.streams.VolumeStreams.{VolumeStreams}
+use Rattle.written_values.specs.file_puts.Puts.{PutsLonger, PutsSized}
+use Rattle.written_values.specs.file_puts.Written.{WritesFile, HasWritten}
 use Rattle.written_clusters.specs.Done.{HasClusters, LongerIsDone}
 use Rattle.written_clusters.proofs.Known.{shown, user, whole, informed, own_stream, plain}
 use Rattle.written_clusters.proofs.Chaining.{none_drafted, keeps_itself, chain_begins}

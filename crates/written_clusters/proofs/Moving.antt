@@ -24,77 +24,77 @@ use Rattle.state_model.specs.declared.stream.Stream.TheVariants.{Held, Placed}
 use Rattle.state_model.specs.Files.{has_type, info_of}
 use Rattle.state_model.specs.Loads.{total_clusters, extents_or}
 use Rattle.state_model.specs.Streams.{block_at, byte_at, extent_bytes}
-use Rattle.volume_model.specs.Volumes.{Volume, file_stream, cluster_bits, size_or, bytes_or}
-use Rattle.volume_model.specs.Nodes.{valid_or, clusters_or}
-use Rattle.volume_model.specs.Owners.{uses}
-use Rattle.volume_model.specs.Sizes.{is_hole}
-use Rattle.volume_state.specs.Trees.{tree_of}
+use Rattle.written_values.specs.volume_model.Volumes.{Volume, file_stream, cluster_bits, size_or, bytes_or}
+use Rattle.written_values.specs.volume_model.Nodes.{valid_or, clusters_or}
+use Rattle.written_values.specs.volume_model.Owners.{uses}
+use Rattle.written_values.specs.volume_model.Sizes.{is_hole}
+use Rattle.written_values.specs.volume_state.Trees.{tree_of}
 use Rattle.tree_model.specs.declared.script.Op.{Op}
 use Rattle.tree_model.specs.Needs.{shrinks, needed, size_after, clusters_for, bytes_part}
 use Rattle.tree_model.specs.Effects.{bytes_after, valid_after, clusters_after, HasChanged}
 use Rattle.tree_model.proofs.FileNeeds.{needs_of_change}
-use Rattle.stream_laws.specs.Owners.{stream_kind}
-use Rattle.stream_laws.specs.Places.{AreOnce}
-use Rattle.stream_laws.specs.Sharing.{StreamKey, stream_at, runs_in}
-use Rattle.stream_laws.proofs.Sharing.{uses-none}
-use Rattle.stream_runs.specs.Runs.{last_cluster, grown}
-use Rattle.stream_runs.proofs.Merging.{follow-grown}
-use Rattle.plan_owners.specs.States.{Stands}
+use Rattle.written_values.specs.stream_laws.Owners.{stream_kind}
+use Rattle.written_values.specs.stream_laws.Places.{AreOnce}
+use Rattle.written_values.specs.stream_laws.Sharing.{StreamKey, stream_at, runs_in}
+use Rattle.written_values.proofs.stream_laws.Sharing.{uses-none}
+use Rattle.written_values.specs.stream_runs.Runs.{last_cluster, grown}
+use Rattle.written_values.proofs.stream_runs.Merging.{follow-grown}
+use Rattle.written_values.specs.plan_owners.States.{Stands}
 use Rattle.plan_bodies.specs.Bodies.{NewBody, put_bodies}
 use Rattle.plan_bodies.proofs.Putting.{sized_with}
 use Rattle.plan_draft.specs.declared.touched.Touched.{Touched}
 use Rattle.plan_draft.specs.Drafts.{drafted}
-use Rattle.plan_model.specs.Attributes.{RewritesValues}
-use Rattle.plan_model.specs.Drafts.{gives_none, gives_runs}
-use Rattle.plan_model.specs.Edits.{IsOwnedIn}
-use Rattle.plan_model.specs.Informed.{is_info, with_info, with_record, InfoDiffers}
-use Rattle.plan_model.proofs.Drafting.{per_is}
-use Rattle.draft_records.specs.Records.{written_record, touch_record}
-use Rattle.draft_resized.specs.Effects.{MovesWhole}
-use Rattle.draft_resized.specs.Moved.{PutsMoved}
-use Rattle.draft_resized.proofs.MovedEffects.{moved_put}
-use Rattle.record_streams.specs.Placing.{placed_record}
-use Rattle.record_times.specs.Laws.{TimesAreSet}
-use Rattle.record_times.specs.Times.{timed_record}
-use Rattle.resized_streams.specs.declared.resized.Resized.{Resized}
-use Rattle.resized_streams.specs.Resizing.{clusters_for as wanted_for, unplaced, lengthened, IsGrown}
-use Rattle.plan_growth.specs.Growing.{MayGive}
-use Rattle.plan_growth.specs.Leaving.{MovesValue}
-use Rattle.plan_growth.specs.Streams.{IsOwnStream, IsWritten, IsFreshIn, MayTake, key_of, marks_streams}
-use Rattle.plan_growth.specs.Trees.{with_data, TreeFollows}
-use Rattle.plan_growth.proofs.Choosing.{may_be_taken}
-use Rattle.plan_growth.proofs.Growing.{total-grown, uses-grown}
-use Rattle.plan_growth.proofs.Leaving.{moved_leads, moved_goes_on, moved_tree}
-use Rattle.plan_growth.proofs.Resizing.{clusters_are as as_many}
-use Rattle.plan_growth.proofs.Runs.{grown_whole}
-use Rattle.plan_values.specs.Values.{IsOwnFile}
-use Rattle.plan_values.proofs.Valued.{limits_named}
-use Rattle.plan_edits.specs.Edits.{mirror_key}
-use Rattle.plan_edits.specs.Moves.{EditsDraft, MovesOfVolume}
-use Rattle.plan_edits.specs.Records.{PutsRecordOf}
-use Rattle.plan_edits.proofs.Bitmap.{state_bitmap, own_by, lies_by}
-use Rattle.plan_edits.proofs.Editing.{some_of}
-use Rattle.plan_edits.proofs.Moving.{moved_edit}
-use Rattle.plan_edits.proofs.Putting.{each_turned}
-use Rattle.plan_changes.specs.Bytes.{GrowsFile, HasSizes}
-use Rattle.plan_changes.specs.Changes.{IsDataAfter}
-use Rattle.plan_changes.specs.Files.{own_data, Shows, with_own, Follows}
-use Rattle.plan_changes.specs.Going.{GoesOnIn}
-use Rattle.plan_changes.specs.Nodes.{NodeBecomes}
-use Rattle.plan_changes.proofs.Becoming.{nodes_are}
-use Rattle.plan_changes.proofs.Changing.{changes_done}
-use Rattle.plan_changes.proofs.Falling.{rooms_are}
-use Rattle.plan_changes.proofs.Going.{files_going}
-use Rattle.plan_changes.proofs.Showing.{files_are}
-use Rattle.step_model.specs.Placing.{Growth, more_of, runs_after}
-use Rattle.step_model.specs.Used.{is_in_record}
-use Rattle.step_model.specs.Streams.{Comes, wanted_data, placed_among}
-use Rattle.data_plan.specs.declared.change.DataChange.TheVariants as change
-use Rattle.data_plan.specs.Changes.{growth_of}
-use Rattle.data_plan.proofs.Cases.{StaysIn, comes_by, cut_stays, clusters_by}
-use Rattle.file_puts.specs.declared.streams.VolumeStreams.{VolumeStreams}
-use Rattle.file_puts.specs.Puts.{with_bytes, PutsLeaving}
-use Rattle.file_puts.specs.Written.{WritesFile, HasWritten}
+use Rattle.written_values.specs.plan_model.Attributes.{RewritesValues}
+use Rattle.written_values.specs.plan_model.Drafts.{gives_none, gives_runs}
+use Rattle.written_values.specs.plan_model.Edits.{IsOwnedIn}
+use Rattle.written_values.specs.plan_model.Informed.{is_info, with_info, with_record, InfoDiffers}
+use Rattle.written_values.proofs.plan_model.Drafting.{per_is}
+use Rattle.written_values.specs.draft_records.Records.{written_record, touch_record}
+use Rattle.written_values.specs.draft_resized.Effects.{MovesWhole}
+use Rattle.written_values.specs.draft_resized.Moved.{PutsMoved}
+use Rattle.written_values.proofs.draft_resized.MovedEffects.{moved_put}
+use Rattle.written_values.specs.record_streams.Placing.{placed_record}
+use Rattle.written_values.specs.record_times.Laws.{TimesAreSet}
+use Rattle.written_values.specs.record_times.Times.{timed_record}
+use Rattle.written_values.specs.resized_streams.declared.resized.Resized.{Resized}
+use Rattle.written_values.specs.resized_streams.Resizing.{clusters_for as wanted_for, unplaced, lengthened, IsGrown}
+use Rattle.state_streams.specs.plan_growth.Growing.{MayGive}
+use Rattle.state_streams.specs.plan_growth.Leaving.{MovesValue}
+use Rattle.state_streams.specs.plan_growth.Streams.{IsOwnStream, IsWritten, IsFreshIn, MayTake, key_of, marks_streams}
+use Rattle.state_streams.specs.plan_growth.Trees.{with_data, TreeFollows}
+use Rattle.state_streams.proofs.plan_growth.Choosing.{may_be_taken}
+use Rattle.state_streams.proofs.plan_growth.Growing.{total-grown, uses-grown}
+use Rattle.state_streams.proofs.plan_growth.Leaving.{moved_leads, moved_goes_on, moved_tree}
+use Rattle.state_streams.proofs.plan_growth.Resizing.{clusters_are as as_many}
+use Rattle.state_streams.proofs.plan_growth.Runs.{grown_whole}
+use Rattle.written_values.specs.plan_values.Values.{IsOwnFile}
+use Rattle.written_values.proofs.plan_values.Valued.{limits_named}
+use Rattle.written_values.specs.plan_edits.Edits.{mirror_key}
+use Rattle.written_values.specs.plan_edits.Moves.{EditsDraft, MovesOfVolume}
+use Rattle.written_values.specs.plan_edits.Records.{PutsRecordOf}
+use Rattle.written_values.proofs.plan_edits.Bitmap.{state_bitmap, own_by, lies_by}
+use Rattle.written_values.proofs.plan_edits.Editing.{some_of}
+use Rattle.written_values.proofs.plan_edits.Moving.{moved_edit}
+use Rattle.written_values.proofs.plan_edits.Putting.{each_turned}
+use Rattle.written_values.specs.plan_changes.Bytes.{GrowsFile, HasSizes}
+use Rattle.written_values.specs.plan_changes.Changes.{IsDataAfter}
+use Rattle.written_values.specs.plan_changes.Files.{own_data, Shows, with_own, Follows}
+use Rattle.written_values.specs.plan_changes.Going.{GoesOnIn}
+use Rattle.written_values.specs.plan_changes.Nodes.{NodeBecomes}
+use Rattle.written_values.proofs.plan_changes.Becoming.{nodes_are}
+use Rattle.written_values.proofs.plan_changes.Changing.{changes_done}
+use Rattle.written_values.proofs.plan_changes.Falling.{rooms_are}
+use Rattle.written_values.proofs.plan_changes.Going.{files_going}
+use Rattle.written_values.proofs.plan_changes.Showing.{files_are}
+use Rattle.written_values.specs.step_model.Placing.{Growth, more_of, runs_after}
+use Rattle.written_values.specs.step_model.Used.{is_in_record}
+use Rattle.written_values.specs.step_model.Streams.{Comes, wanted_data, placed_among}
+use Rattle.written_values.specs.data_plan.declared.change.DataChange.TheVariants as change
+use Rattle.written_values.specs.data_plan.Changes.{growth_of}
+use Rattle.written_values.proofs.data_plan.Cases.{StaysIn, comes_by, cut_stays, clusters_by}
+use Rattle.written_values.specs.file_puts.declared.streams.VolumeStreams.{VolumeStreams}
+use Rattle.written_values.specs.file_puts.Puts.{with_bytes, PutsLeaving}
+use Rattle.written_values.specs.file_puts.Written.{WritesFile, HasWritten}
 use Rattle.written_clusters.specs.Done.{HasClusters, LeavingIsDone}
 use Rattle.written_clusters.proofs.Known.{shown, user, informed, own_stream, plain}
 use Rattle.written_clusters.proofs.Staying.{types_stay, which_stays}

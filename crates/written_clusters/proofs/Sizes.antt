@@ -19,55 +19,55 @@ use Rattle.state_model.specs.declared.stream.Stream.TheVariants.{Placed}
 use Rattle.state_model.specs.Files.{has_type, info_of}
 use Rattle.state_model.specs.Loads.{total_clusters, extents_or}
 use Rattle.state_model.specs.Streams.{block_at}
-use Rattle.volume_model.specs.Volumes.{Volume, bytes_or, file_stream}
-use Rattle.volume_model.specs.Sizes.{has_hole, lies_inside, has_sizes, fits_volume}
-use Rattle.volume_state.specs.Trees.{tree_of}
+use Rattle.written_values.specs.volume_model.Volumes.{Volume, bytes_or, file_stream}
+use Rattle.written_values.specs.volume_model.Sizes.{has_hole, lies_inside, has_sizes, fits_volume}
+use Rattle.written_values.specs.volume_state.Trees.{tree_of}
 use Rattle.tree_model.specs.declared.script.Op.{Op}
 use Rattle.tree_model.specs.Needs.{size_after, clusters_for}
 use Rattle.tree_model.specs.Effects.{valid_after, HasChanged}
-use Rattle.stream_laws.specs.Owners.{stream_kind}
-use Rattle.stream_laws.specs.Sharing.{StreamKey, stream_at, runs_in}
-use Rattle.stream_laws.proofs.Changing.{length-extent_bytes}
-use Rattle.stream_laws.proofs.Sharing.{same_from_test, same_key}
-use Rattle.plan_owners.specs.States.{Stands}
+use Rattle.written_values.specs.stream_laws.Owners.{stream_kind}
+use Rattle.written_values.specs.stream_laws.Sharing.{StreamKey, stream_at, runs_in}
+use Rattle.written_values.proofs.stream_laws.Changing.{length-extent_bytes}
+use Rattle.written_values.proofs.stream_laws.Sharing.{same_from_test, same_key}
+use Rattle.written_values.specs.plan_owners.States.{Stands}
 use Rattle.plan_bodies.specs.Bodies.{NewBody, put_bodies}
 use Rattle.plan_bodies.proofs.Putting.{sized_with}
 use Rattle.plan_draft.specs.declared.touched.Touched.{Touched}
 use Rattle.plan_draft.specs.Touching.{bodies_of}
 use Rattle.plan_draft.specs.Drafts.{drafted}
-use Rattle.plan_model.specs.Attributes.{RewritesValues}
-use Rattle.plan_model.specs.Edits.{IsOwnedIn}
-use Rattle.plan_model.specs.Informed.{is_info, with_record}
-use Rattle.draft_bits.specs.Effects.{IsKept}
-use Rattle.draft_streams.specs.Parts.{touch_bytes}
-use Rattle.draft_records.specs.Records.{written_record, touch_record}
-use Rattle.record_streams.specs.Placing.{placed_record}
-use Rattle.record_times.specs.Laws.{TimesAreSet}
-use Rattle.record_times.specs.Times.{timed_record}
-use Rattle.resized_streams.specs.declared.resized.Resized.{Resized}
-use Rattle.resized_streams.specs.Resizing.{with_sizes, IsSized}
-use Rattle.plan_growth.specs.Streams.{IsOwnStream, IsWritten, key_of, marks_streams}
-use Rattle.plan_growth.specs.Sizing.{marks_and, SizesStream}
-use Rattle.plan_growth.proofs.Ruled.{stream_fits}
-use Rattle.plan_growth.proofs.Sizing.{sized_leads, sized_goes_on}
-use Rattle.plan_values.specs.Values.{IsOwnFile}
-use Rattle.plan_edits.specs.Edits.{mirror_key}
-use Rattle.plan_edits.specs.Moves.{EditsDraft}
-use Rattle.plan_edits.specs.Records.{PutsRecordOf}
-use Rattle.plan_edits.specs.Sizes.{SizesWith, SizesOfVolume}
-use Rattle.plan_edits.proofs.Putting.{bytes_go, each_turned}
-use Rattle.plan_edits.proofs.Recording.{record_edit}
-use Rattle.plan_edits.proofs.Sizing.{sized_edit}
-use Rattle.plan_changes.specs.Bytes.{GrowsFile, place_of, put_of, HasSizes}
-use Rattle.plan_changes.specs.Files.{IsChangeable, own_data, with_own}
-use Rattle.plan_changes.specs.Going.{GoesOnIn}
-use Rattle.plan_changes.specs.Nodes.{NodeBecomes}
-use Rattle.plan_changes.specs.Writes.{sized_volume, WritesInClusters}
-use Rattle.plan_changes.proofs.Bringing.{bytes_come}
-use Rattle.plan_changes.proofs.Going.{files_going}
-use Rattle.plan_changes.proofs.Writing.{written_so}
-use Rattle.file_puts.specs.declared.streams.VolumeStreams.{VolumeStreams}
-use Rattle.file_puts.specs.Puts.{PutsFileRecord, PutsSizes, first_fresh}
+use Rattle.written_values.specs.plan_model.Attributes.{RewritesValues}
+use Rattle.written_values.specs.plan_model.Edits.{IsOwnedIn}
+use Rattle.written_values.specs.plan_model.Informed.{is_info, with_record}
+use Rattle.written_values.specs.draft_bits.Effects.{IsKept}
+use Rattle.written_values.specs.draft_streams.Parts.{touch_bytes}
+use Rattle.written_values.specs.draft_records.Records.{written_record, touch_record}
+use Rattle.written_values.specs.record_streams.Placing.{placed_record}
+use Rattle.written_values.specs.record_times.Laws.{TimesAreSet}
+use Rattle.written_values.specs.record_times.Times.{timed_record}
+use Rattle.written_values.specs.resized_streams.declared.resized.Resized.{Resized}
+use Rattle.written_values.specs.resized_streams.Resizing.{with_sizes, IsSized}
+use Rattle.state_streams.specs.plan_growth.Streams.{IsOwnStream, IsWritten, key_of, marks_streams}
+use Rattle.state_streams.specs.plan_growth.Sizing.{marks_and, SizesStream}
+use Rattle.state_streams.proofs.plan_growth.Ruled.{stream_fits}
+use Rattle.state_streams.proofs.plan_growth.Sizing.{sized_leads, sized_goes_on}
+use Rattle.written_values.specs.plan_values.Values.{IsOwnFile}
+use Rattle.written_values.specs.plan_edits.Edits.{mirror_key}
+use Rattle.written_values.specs.plan_edits.Moves.{EditsDraft}
+use Rattle.written_values.specs.plan_edits.Records.{PutsRecordOf}
+use Rattle.written_values.specs.plan_edits.Sizes.{SizesWith, SizesOfVolume}
+use Rattle.written_values.proofs.plan_edits.Putting.{bytes_go, each_turned}
+use Rattle.written_values.proofs.plan_edits.Recording.{record_edit}
+use Rattle.written_values.proofs.plan_edits.Sizing.{sized_edit}
+use Rattle.written_values.specs.plan_changes.Bytes.{GrowsFile, place_of, put_of, HasSizes}
+use Rattle.written_values.specs.plan_changes.Files.{IsChangeable, own_data, with_own}
+use Rattle.written_values.specs.plan_changes.Going.{GoesOnIn}
+use Rattle.written_values.specs.plan_changes.Nodes.{NodeBecomes}
+use Rattle.written_values.specs.plan_changes.Writes.{sized_volume, WritesInClusters}
+use Rattle.written_values.proofs.plan_changes.Bringing.{bytes_come}
+use Rattle.written_values.proofs.plan_changes.Going.{files_going}
+use Rattle.written_values.proofs.plan_changes.Writing.{written_so}
+use Rattle.written_values.specs.file_puts.declared.streams.VolumeStreams.{VolumeStreams}
+use Rattle.written_values.specs.file_puts.Puts.{PutsFileRecord, PutsSizes, first_fresh}
 use Rattle.written_clusters.proofs.Staying.{types_stay, which_stays}
 use Rattle.written_clusters.proofs.Chaining.{PutsTo, KeepsMarks, keeps_with, mark_put, record_put, own_put, Chain, chain_goes_on}
 use Rattle.written_clusters.proofs.Timing.{written_spelled, stamped, timed_chain, timed_runs, timed_data}

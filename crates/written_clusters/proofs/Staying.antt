@@ -14,22 +14,22 @@ use Rattle.state_model.specs.declared.stream.Stream.{Stream}
 use Rattle.state_model.specs.Files.{has_type}
 use Rattle.state_model.specs.Loads.{table_in, has_fitting_pairs}
 use Rattle.state_model.specs.Streams.{attributes_of, stream_of, block_at}
-use Rattle.volume_model.specs.Volumes.{Volume, file_in, file_stream}
-use Rattle.stream_laws.specs.Replacing.{FileEdit, with_edits}
-use Rattle.stream_laws.specs.Sharing.{StreamKey, stream_at, runs_in}
-use Rattle.stream_laws.proofs.Editing.{other_file}
-use Rattle.stream_laws.proofs.Sharing.{same_key}
-use Rattle.tree_laws.proofs.Naming.{file_elsewhere}
-use Rattle.plan_owners.specs.States.{Stands}
-use Rattle.plan_model.specs.Attributes.{RewritesValues}
-use Rattle.plan_model.specs.Informed.{is_info, with_record}
-use Rattle.plan_model.proofs.OneRecord.{OwnRecord, own_record}
-use Rattle.plan_model.proofs.Rewriting.{same_runs}
-use Rattle.record_streams.specs.Placing.{placed_record}
-use Rattle.plan_growth.specs.Streams.{IsOwnStream, IsWritten, key_of}
-use Rattle.plan_growth.proofs.Placed.{same_or_other, some_attributes, placed_types, other_stream, placed_all}
-use Rattle.plan_growth.proofs.Resizing.{slot_open, used_pairs}
-use Rattle.plan_growth.proofs.Written.{Reads, all_read, placed_reads, written_types, written_stream}
+use Rattle.written_values.specs.volume_model.Volumes.{Volume, file_in, file_stream}
+use Rattle.written_values.specs.stream_laws.Replacing.{FileEdit, with_edits}
+use Rattle.written_values.specs.stream_laws.Sharing.{StreamKey, stream_at, runs_in}
+use Rattle.written_values.proofs.stream_laws.Editing.{other_file}
+use Rattle.written_values.proofs.stream_laws.Sharing.{same_key}
+use Rattle.written_values.proofs.tree_laws.Naming.{file_elsewhere}
+use Rattle.written_values.specs.plan_owners.States.{Stands}
+use Rattle.written_values.specs.plan_model.Attributes.{RewritesValues}
+use Rattle.written_values.specs.plan_model.Informed.{is_info, with_record}
+use Rattle.written_values.proofs.plan_model.OneRecord.{OwnRecord, own_record}
+use Rattle.written_values.proofs.plan_model.Rewriting.{same_runs}
+use Rattle.written_values.specs.record_streams.Placing.{placed_record}
+use Rattle.state_streams.specs.plan_growth.Streams.{IsOwnStream, IsWritten, key_of}
+use Rattle.state_streams.proofs.plan_growth.Placed.{same_or_other, some_attributes, placed_types, other_stream, placed_all}
+use Rattle.state_streams.proofs.plan_growth.Resizing.{slot_open, used_pairs}
+use Rattle.state_streams.proofs.plan_growth.Written.{Reads, all_read, placed_reads, written_types, written_stream}
 
 -- the streams of other files
 pub elsewhere : (v : Volume) (n : ℕ) (s : Record) (t : StreamKey) → t.file ≢ n → stream_at (with_record v n s) t ≡ stream_at v t

@@ -5,7 +5,7 @@ use Rattle.std.proofs.lemmas.Bool.{cases_lt, both_ways, ltb-true, ltb-false, eq-
 use Rattle.disk_model.specs.declared.block.BlockKind.{BlockKind}
 use Rattle.disk_model.specs.Content.{Content}
 use Rattle.bit_set.proofs.Views.{length-bits_of_bytes}
-use Rattle.volume_model.specs.Volumes.{Volume, cluster_bits, cluster_bitmap, bytes_or}
+use Rattle.written_values.specs.volume_model.Volumes.{Volume, cluster_bits, cluster_bitmap, bytes_or}
 use Rattle.record_model.specs.declared.runs.Run.{Run}
 use Rattle.file_tree.specs.declared.node.Node.{Node}
 use Rattle.state_model.specs.Loads.{total_clusters}
@@ -16,7 +16,7 @@ use Rattle.tree_model.specs.declared.script.Op.{Op}
 use Rattle.tree_model.specs.declared.script.Op.TheVariants as op
 use Rattle.tree_model.specs.Needs.{size_after, shrinks, changes_file, clusters_for}
 use Rattle.tree_model.specs.Effects.{clusters_after}
-use Rattle.plan_changes.specs.Bytes.{GrowsFile}
+use Rattle.written_values.specs.plan_changes.Bytes.{GrowsFile}
 
 -- two words for one sum
 pub total_same : (runs : List Run) → total_clusters runs ≡ clusters_of runs

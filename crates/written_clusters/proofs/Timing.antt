@@ -10,42 +10,42 @@ use Rattle.record_model.specs.declared.runs.Run.{Run}
 use Rattle.record_model.specs.declared.values.StdInfo.{StdInfo}
 use Rattle.record_model.specs.Constants.{data_type}
 use Rattle.record_model.specs.Records.{Record}
-use Rattle.record_writer.specs.NormalLaws.{FitsByRoom}
+use Rattle.written_values.specs.record_writer.NormalLaws.{FitsByRoom}
 use Rattle.file_tree.specs.declared.node.Node.{Node}
 use Rattle.state_model.specs.declared.geometry.Geometry.{Geometry}
 use Rattle.state_model.specs.declared.stream.Extents.{Extents}
 use Rattle.state_model.specs.declared.stream.Stream.{Stream}
 use Rattle.state_model.specs.Files.{info_of}
 use Rattle.state_model.specs.Streams.{stream_of, block_at}
-use Rattle.volume_model.specs.Volumes.{Volume, file_stream}
-use Rattle.stream_laws.specs.Sharing.{StreamKey, stream_at, runs_in}
-use Rattle.volume_state.specs.Trees.{tree_of}
-use Rattle.plan_owners.specs.States.{Stands}
+use Rattle.written_values.specs.volume_model.Volumes.{Volume, file_stream}
+use Rattle.written_values.specs.stream_laws.Sharing.{StreamKey, stream_at, runs_in}
+use Rattle.written_values.specs.volume_state.Trees.{tree_of}
+use Rattle.written_values.specs.plan_owners.States.{Stands}
 use Rattle.plan_bodies.specs.Bodies.{NewBody, put_bodies}
 use Rattle.plan_bodies.proofs.Putting.{sized_with}
 use Rattle.plan_draft.specs.declared.touched.Touched.{Touched}
 use Rattle.plan_draft.specs.Touching.{bodies_of}
 use Rattle.plan_draft.specs.Drafts.{drafted}
-use Rattle.plan_model.specs.Attributes.{RewritesValues}
-use Rattle.plan_model.specs.Edits.{IsOwnedIn}
-use Rattle.plan_model.specs.Informed.{is_info, with_record, InfoDiffers}
-use Rattle.plan_model.proofs.Rewriting.{same_stream}
-use Rattle.draft_records.specs.Records.{written_record, written_bytes, fits_room}
-use Rattle.draft_records.proofs.Written.{fits_written, room_full}
-use Rattle.draft_records.proofs.Spelled.{spelled_but_room}
-use Rattle.record_streams.specs.Fitting.{FitsButRoom}
-use Rattle.record_times.specs.Times.{timed_record}
-use Rattle.record_times.specs.Laws.{TimesAreSet}
-use Rattle.plan_growth.specs.Streams.{key_of, marks_streams}
-use Rattle.plan_values.specs.Values.{IsOwnFile, WritesValues}
-use Rattle.plan_values.proofs.Valued.{values_written, data_spared}
-use Rattle.plan_edits.specs.Moves.{EditsDraft}
-use Rattle.plan_edits.specs.Records.{PutsRecordOf}
-use Rattle.plan_edits.proofs.Putting.{each_turned}
-use Rattle.plan_informed.proofs.Informed.{values_edit}
-use Rattle.plan_changes.specs.Changes.{Stamps}
-use Rattle.plan_changes.specs.Going.{StandsAs}
-use Rattle.plan_changes.proofs.Going.{files_going}
+use Rattle.written_values.specs.plan_model.Attributes.{RewritesValues}
+use Rattle.written_values.specs.plan_model.Edits.{IsOwnedIn}
+use Rattle.written_values.specs.plan_model.Informed.{is_info, with_record, InfoDiffers}
+use Rattle.written_values.proofs.plan_model.Rewriting.{same_stream}
+use Rattle.written_values.specs.draft_records.Records.{written_record, written_bytes, fits_room}
+use Rattle.written_values.proofs.draft_records.Written.{fits_written, room_full}
+use Rattle.written_values.proofs.draft_records.Spelled.{spelled_but_room}
+use Rattle.written_values.specs.record_streams.Fitting.{FitsButRoom}
+use Rattle.written_values.specs.record_times.Times.{timed_record}
+use Rattle.written_values.specs.record_times.Laws.{TimesAreSet}
+use Rattle.state_streams.specs.plan_growth.Streams.{key_of, marks_streams}
+use Rattle.written_values.specs.plan_values.Values.{IsOwnFile, WritesValues}
+use Rattle.written_values.proofs.plan_values.Valued.{values_written, data_spared}
+use Rattle.written_values.specs.plan_edits.Moves.{EditsDraft}
+use Rattle.written_values.specs.plan_edits.Records.{PutsRecordOf}
+use Rattle.written_values.proofs.plan_edits.Putting.{each_turned}
+use Rattle.written_values.proofs.plan_informed.Informed.{values_edit}
+use Rattle.written_values.specs.plan_changes.Changes.{Stamps}
+use Rattle.written_values.specs.plan_changes.Going.{StandsAs}
+use Rattle.written_values.proofs.plan_changes.Going.{files_going}
 use Rattle.written_clusters.proofs.Staying.{times_stay}
 use Rattle.written_clusters.proofs.Chaining.{PutsTo, KeepsMarks, mark_put, record_put, Chain, chain_goes_on}
 

@@ -4,16 +4,16 @@ use Rattle.disk_model.specs.Content.{Content}
 use Rattle.record_model.specs.Records.{Record}
 use Rattle.file_tree.specs.declared.node.Node.{Node}
 use Rattle.state_model.specs.declared.geometry.Geometry.{Geometry}
-use Rattle.volume_model.specs.Volumes.{Volume, cluster_bits}
+use Rattle.written_values.specs.volume_model.Volumes.{Volume, cluster_bits}
 use Rattle.tree_model.specs.declared.script.Op.{Op}
 use Rattle.tree_model.specs.Needs.{shrinks}
 use Rattle.plan_draft.specs.declared.touched.Touched.{Touched}
-use Rattle.resized_streams.specs.declared.resized.Resized.{Resized}
-use Rattle.step_model.specs.Placing.{more_of}
-use Rattle.data_plan.specs.declared.change.DataChange.TheVariants as change
-use Rattle.data_plan.specs.Changes.{growth_of}
-use Rattle.file_puts.specs.declared.streams.VolumeStreams.{VolumeStreams}
-use Rattle.file_puts.specs.Written.{WritesFile, HasWritten}
+use Rattle.written_values.specs.resized_streams.declared.resized.Resized.{Resized}
+use Rattle.written_values.specs.step_model.Placing.{more_of}
+use Rattle.written_values.specs.data_plan.declared.change.DataChange.TheVariants as change
+use Rattle.written_values.specs.data_plan.Changes.{growth_of}
+use Rattle.written_values.specs.file_puts.declared.streams.VolumeStreams.{VolumeStreams}
+use Rattle.written_values.specs.file_puts.Written.{WritesFile, HasWritten}
 
 -- so many clusters are clear as the file's data comes to take
 abbrev pub HasClusters : Content → Volume → Op → Node → Record → Type 0

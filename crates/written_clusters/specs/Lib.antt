@@ -1,1 +1,25 @@
+pub use Rattle.state_streams.specs.plan_growth
+pub use Rattle.written_values.specs as written_values
+pub use Rattle.written_values.specs.change_lookup
+pub use Rattle.written_values.specs.change_steps
+pub use Rattle.written_values.specs.data_plan
+pub use Rattle.written_values.specs.draft_bits
+pub use Rattle.written_values.specs.draft_records
+pub use Rattle.written_values.specs.draft_resized
+pub use Rattle.written_values.specs.draft_runs
+pub use Rattle.written_values.specs.draft_streams
+pub use Rattle.written_values.specs.plan_changes
+pub use Rattle.written_values.specs.plan_edits
+pub use Rattle.written_values.specs.plan_model
+pub use Rattle.written_values.specs.plan_owners
+pub use Rattle.written_values.specs.plan_values
+pub use Rattle.written_values.specs.record_streams
+pub use Rattle.written_values.specs.record_times
+pub use Rattle.written_values.specs.record_values
+pub use Rattle.written_values.specs.record_writer
+pub use Rattle.written_values.specs.resized_streams
+pub use Rattle.written_values.specs.step_model
+pub use Rattle.written_values.specs.stream_laws
+pub use Rattle.written_values.specs.volume_model
+pub use Rattle.written_values.specs.volume_state
 pub mod Done

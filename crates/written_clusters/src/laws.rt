@@ -1,7 +1,7 @@
 //! The laws of these definitions.
 ghost use Rattle.written_clusters.specs.Done.{GrowthIsDone, LeavingIsDone, LongerIsDone};
 
-use record_times::times_are_set;
+use written_values::times_are_set;
 
 /// Law: where data got greater sizes in the clusters that it had, the operation is done.
 pub fn longer_is_done()

@@ -13,7 +13,7 @@ use Rattle.record_model.specs.declared.runs.Run.{Run}
 use Rattle.record_model.specs.Records.{Record, record_spelling}
 use Rattle.state_model.specs.declared.stream.Extents.{Extents}
 use Rattle.state_model.specs.Streams.{block_at}
-use Rattle.stream_map.proofs.Reading.{kind-block_at}
+use Rattle.file_changes.proofs.stream_map.Reading.{kind-block_at}
 use Rattle.plan_bodies.specs.Bodies.{NewBody, AreBodies, body_in, body_or, content_with}
 use Rattle.plan_bodies.proofs.Putting.{body_put, sized_with}
 use Rattle.plan_draft.specs.declared.touched.Touched.{Touched}
@@ -24,19 +24,19 @@ use Rattle.plan_draft.proofs.Parts.{zeros_long}
 use Rattle.plan_draft.proofs.Puts.{bodies_touch, rises_touch, whole_touch}
 use Rattle.plan_draft.proofs.Same.{one_in_order}
 use Rattle.plan_draft.proofs.Touching.{are_bodies}
-use Rattle.draft_streams.specs.Parts.{offset_in, bytes_in, touch_part, touch_sectors, first_sector, sector_count, touch_bytes}
-use Rattle.draft_bits.specs.Filling.{FillsBytes, bytes_from, byte_count, first_past}
-use Rattle.draft_bits.specs.Effects.{IsKept}
-use Rattle.draft_runs.specs.Clusters.{PutsClusters, PutsRuns}
-use Rattle.draft_records.specs.Records.{record_block, is_past, has_mirror, written_record, touch_if, touch_record}
-use Rattle.draft_records.proofs.Steps.{kind_of_size}
-use Rattle.resized_streams.specs.declared.resized.Resized.{Resized}
-use Rattle.draft_resized.specs.Resized.{with_file, PutsResized}
-use Rattle.draft_resized.specs.Moved.{PutsMoved}
-use Rattle.draft_resized.proofs.FileEffects.{long_of, kept_both}
-use Rattle.file_puts.specs.declared.streams.VolumeStreams.{VolumeStreams}
-use Rattle.file_puts.specs.Puts.{PutsFileRecord}
-use Rattle.written_values.proofs.Joining.{nothing_kept}
+use Rattle.file_changes.specs.draft_streams.Parts.{offset_in, bytes_in, touch_part, touch_sectors, first_sector, sector_count, touch_bytes}
+use Rattle.file_changes.specs.draft_bits.Filling.{FillsBytes, bytes_from, byte_count, first_past}
+use Rattle.file_changes.specs.draft_bits.Effects.{IsKept}
+use Rattle.file_changes.specs.draft_runs.Clusters.{PutsClusters, PutsRuns}
+use Rattle.file_changes.specs.draft_records.Records.{record_block, is_past, has_mirror, written_record, touch_if, touch_record}
+use Rattle.file_changes.proofs.draft_records.Steps.{kind_of_size}
+use Rattle.file_changes.specs.resized_streams.declared.resized.Resized.{Resized}
+use Rattle.file_changes.specs.draft_resized.Resized.{with_file, PutsResized}
+use Rattle.file_changes.specs.draft_resized.Moved.{PutsMoved}
+use Rattle.file_changes.proofs.draft_resized.FileEffects.{long_of, kept_both}
+use Rattle.file_changes.specs.file_puts.declared.streams.VolumeStreams.{VolumeStreams}
+use Rattle.file_changes.specs.file_puts.Puts.{PutsFileRecord}
+use Rattle.file_changes.proofs.written_values.Joining.{nothing_kept}
 
 -- What is touched over a content, and over the content with these bodies, has the same bodies, whole and in order, and puts all blocks of
 -- these.

@@ -13,18 +13,18 @@ use Rattle.tree_model.specs.declared.reply.Reply.{Reply}
 use Rattle.tree_model.specs.declared.reply.Reply.TheVariants as reply
 use Rattle.plan_draft.specs.declared.touched.Touched.{Touched}
 use Rattle.space_model.specs.Choosing.{with_runs}
-use Rattle.record_streams.specs.Fitting.{FitsButRoom}
-use Rattle.step_model.specs.Placing.{Growth, more_of}
-use Rattle.data_plan.specs.Changes.{HasData, growth_of, row_of}
+use Rattle.file_changes.specs.record_streams.Fitting.{FitsButRoom}
+use Rattle.file_changes.specs.step_model.Placing.{Growth, more_of}
+use Rattle.made_data.specs.data_plan.Changes.{HasData, growth_of, row_of}
 use Rattle.made_data.specs.Laws.{MadeIsCounted}
 use Rattle.made_data.specs.Made.{made_record, has_data}
-use Rattle.file_puts.specs.declared.streams.VolumeStreams.{VolumeStreams}
-use Rattle.file_writes.specs.declared.fault.WriteFault.{WriteFault}
-use Rattle.file_writes.specs.declared.fault.WriteFault.TheVariants.{Full, Short, Fault, Memory}
-use Rattle.file_writes.specs.Faults.{IsShortOf, HasRow, StaysWhereRefused}
-use Rattle.file_writes.specs.Writing.{PutsWrite}
-use Rattle.change_steps.specs.Changes.{ChangesAreSteps}
-use Rattle.change_steps.specs.Ready.{BareIsEnough, FilesAreReady}
+use Rattle.file_changes.specs.file_puts.declared.streams.VolumeStreams.{VolumeStreams}
+use Rattle.file_changes.specs.file_writes.declared.fault.WriteFault.{WriteFault}
+use Rattle.file_changes.specs.file_writes.declared.fault.WriteFault.TheVariants.{Full, Short, Fault, Memory}
+use Rattle.file_changes.specs.file_writes.Faults.{IsShortOf, HasRow, StaysWhereRefused}
+use Rattle.file_changes.specs.file_writes.Writing.{PutsWrite}
+use Rattle.file_changes.specs.change_steps.Changes.{ChangesAreSteps}
+use Rattle.file_changes.specs.change_steps.Ready.{BareIsEnough, FilesAreReady}
 use Rattle.file_changes.specs.Calls.{IsAsked, StepsFrom}
 use Rattle.file_changes.specs.Written.{WrittenFrom}
 use Rattle.file_changes.specs.Changes.{ChangesFile}

@@ -22,35 +22,35 @@ use Rattle.plan_draft.specs.declared.touched.Touched.{Touched}
 use Rattle.plan_draft.specs.Touching.{bodies_of}
 use Rattle.plan_draft.proofs.Touching.{are_bodies}
 use Rattle.plan_bodies.specs.Bodies.{NewBody, AreBodies}
-use Rattle.record_streams.proofs.Kept.{but_room_fits}
-use Rattle.record_values.specs.Values.{valued_record}
-use Rattle.record_times.specs.Times.{timed_record}
-use Rattle.resized_streams.specs.declared.resized.Resized.{Resized}
-use Rattle.resized_streams.specs.Resizing.{unplaced, lengthened}
-use Rattle.draft_bits.specs.Effects.{IsKept}
-use Rattle.draft_records.specs.Records.{written_record, written_bytes, has_mirror, touch_record}
-use Rattle.draft_resized.specs.Resized.{resized_bytes}
-use Rattle.draft_resized.specs.Moved.{PutsMoved}
-use Rattle.draft_resized.proofs.FileEffects.{long_of, kept_both}
-use Rattle.step_model.specs.Placing.{Growth, more_of}
-use Rattle.step_model.specs.Streams.{data_of}
-use Rattle.step_model.specs.Used.{own_attr, value_attr, placed_attr}
-use Rattle.used_laws.proofs.Beside.{used}
-use Rattle.data_plan.specs.declared.change.DataChange.{DataChange}
-use Rattle.data_plan.specs.declared.change.DataChange.TheVariants as change
-use Rattle.data_plan.specs.Changes.{data_in, growth_of, Stays, Leaves, IsChange}
+use Rattle.file_changes.proofs.record_streams.Kept.{but_room_fits}
+use Rattle.file_changes.specs.record_values.Values.{valued_record}
+use Rattle.file_changes.specs.record_times.Times.{timed_record}
+use Rattle.file_changes.specs.resized_streams.declared.resized.Resized.{Resized}
+use Rattle.file_changes.specs.resized_streams.Resizing.{unplaced, lengthened}
+use Rattle.file_changes.specs.draft_bits.Effects.{IsKept}
+use Rattle.file_changes.specs.draft_records.Records.{written_record, written_bytes, has_mirror, touch_record}
+use Rattle.file_changes.specs.draft_resized.Resized.{resized_bytes}
+use Rattle.file_changes.specs.draft_resized.Moved.{PutsMoved}
+use Rattle.file_changes.proofs.draft_resized.FileEffects.{long_of, kept_both}
+use Rattle.file_changes.specs.step_model.Placing.{Growth, more_of}
+use Rattle.file_changes.specs.step_model.Streams.{data_of}
+use Rattle.file_changes.specs.step_model.Used.{own_attr, value_attr, placed_attr}
+use Rattle.file_changes.proofs.used_laws.Beside.{used}
+use Rattle.made_data.specs.data_plan.declared.change.DataChange.{DataChange}
+use Rattle.made_data.specs.data_plan.declared.change.DataChange.TheVariants as change
+use Rattle.made_data.specs.data_plan.Changes.{data_in, growth_of, Stays, Leaves, IsChange}
 use Rattle.made_data.specs.Ids.{new_id}
 use Rattle.made_data.specs.Laws.{MadeIsCounted}
 use Rattle.made_data.specs.Made.{empty_data, with_empty_data, made_record, has_data}
-use Rattle.file_puts.specs.declared.streams.VolumeStreams.{VolumeStreams}
-use Rattle.file_puts.specs.Puts.{PutsFileRecord, with_bytes, PutsChange}
-use Rattle.file_puts.specs.Written.{WritesFile, HasWritten}
-use Rattle.written_values.specs.Laws.{ValuesAreDone}
-use Rattle.written_values.proofs.Growths.{growth_is}
-use Rattle.written_values.proofs.Joining.{nothing_kept}
-use Rattle.written_values.proofs.Owning.{is_owned}
-use Rattle.plan_changes.proofs.Showing.{files_are}
-use Rattle.written_clusters.specs.Done.{HasClusters, LeavingIsDone}
+use Rattle.file_changes.specs.file_puts.declared.streams.VolumeStreams.{VolumeStreams}
+use Rattle.file_changes.specs.file_puts.Puts.{PutsFileRecord, with_bytes, PutsChange}
+use Rattle.file_changes.specs.file_puts.Written.{WritesFile, HasWritten}
+use Rattle.file_changes.specs.written_values.Laws.{ValuesAreDone}
+use Rattle.file_changes.proofs.written_values.Growths.{growth_is}
+use Rattle.file_changes.proofs.written_values.Joining.{nothing_kept}
+use Rattle.file_changes.proofs.written_values.Owning.{is_owned}
+use Rattle.file_changes.proofs.plan_changes.Showing.{files_are}
+use Rattle.file_changes.specs.written_clusters.Done.{HasClusters, LeavingIsDone}
 use Rattle.written_made.specs.Made.{WritesMade, MadeIsDone}
 use Rattle.written_made.proofs.Alike.{AreAlike, first_alike, file_alike, moved_alike}
 use Rattle.written_made.proofs.Making.{touch_made, with_made, made_volume, GetsData, gets_data}

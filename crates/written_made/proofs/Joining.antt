@@ -7,14 +7,14 @@ use Rattle.disk_model.specs.Content.{Content, HasSizes}
 use Rattle.bit_set.specs.Bits.{bit}
 use Rattle.state_model.specs.declared.geometry.Geometry.{Geometry}
 use Rattle.volume_model.specs.Volumes.{Volume, cluster_bits}
-use Rattle.stream_laws.specs.Owners.{IsLive}
-use Rattle.tree_laws.proofs.Ascending.{all_by}
-use Rattle.plan_owners.specs.States.{Stands}
-use Rattle.plan_owners.specs.Kinds.{OwnsAs}
+use Rattle.file_changes.specs.stream_laws.Owners.{IsLive}
+use Rattle.file_changes.proofs.tree_laws.Ascending.{all_by}
+use Rattle.file_changes.specs.plan_owners.States.{Stands}
+use Rattle.file_changes.specs.plan_owners.Kinds.{OwnsAs}
 use Rattle.plan_bodies.specs.Bodies.{NewBody, content_with, body_in, put_bodies}
 use Rattle.plan_bodies.proofs.Putting.{contents_put, are_bodies, either, all_in_both}
-use Rattle.plan_model.specs.Drafts.{FollowsOwners, MayChange, IsPut, DraftIn, gives_none}
-use Rattle.plan_model.proofs.Drafting.{marks_twice}
+use Rattle.file_changes.specs.plan_model.Drafts.{FollowsOwners, MayChange, IsPut, DraftIn, gives_none}
+use Rattle.file_changes.proofs.plan_model.Drafting.{marks_twice}
 
 none_given : (kind : BlockKind) → None ≡ Some kind → ⊥
 none_given kind given = cc

@@ -8,7 +8,7 @@ use Rattle.disk_model.specs.Content.{Content, HasSizes}
 use Rattle.record_model.specs.declared.attribute.Attr.{Attr}
 use Rattle.record_model.specs.Constants.{data_type}
 use Rattle.record_model.specs.Records.{Record, record_spelling}
-use Rattle.record_writer.specs.NormalLaws.{FitsByRoom}
+use Rattle.file_changes.specs.record_writer.NormalLaws.{FitsByRoom}
 use Rattle.bit_set.specs.Words.{bits_of_bytes}
 use Rattle.file_tree.specs.declared.node.Node.{Node}
 use Rattle.state_model.specs.declared.geometry.Geometry.{Geometry}
@@ -17,48 +17,48 @@ use Rattle.state_model.specs.declared.stream.Stream.TheVariants.{Held}
 use Rattle.state_model.specs.Loads.{extents_or}
 use Rattle.state_model.specs.Streams.{is_attribute_of, joined, stream_of}
 use Rattle.volume_model.specs.Volumes.{Volume, count_of, file_in, file_stream, bytes_or, cluster_bits, mirror_file, bitmap_file}
-use Rattle.volume_state.specs.Trees.{tree_of}
-use Rattle.stream_laws.specs.Sharing.{StreamKey, stream_at, runs_in}
-use Rattle.plan_owners.specs.States.{Stands}
+use Rattle.file_changes.specs.volume_state.Trees.{tree_of}
+use Rattle.file_changes.specs.stream_laws.Sharing.{StreamKey, stream_at, runs_in}
+use Rattle.file_changes.specs.plan_owners.States.{Stands}
 use Rattle.plan_bodies.specs.Bodies.{NewBody, content_with, put_bodies}
 use Rattle.plan_bodies.proofs.Putting.{contents_put, sized_with}
 use Rattle.plan_draft.specs.declared.touched.Touched.{Touched}
 use Rattle.plan_draft.specs.Touching.{bodies_of}
 use Rattle.plan_draft.specs.Drafts.{drafted}
 use Rattle.plan_draft.specs.Same.{PutSame}
-use Rattle.plan_model.specs.Attributes.{IsValue}
-use Rattle.plan_model.specs.Drafts.{DraftIn, gives_none}
-use Rattle.plan_model.specs.Edits.{LeadsTo}
-use Rattle.plan_model.specs.Informed.{with_record}
-use Rattle.plan_model.specs.Parts.{ReplacesAttrs}
-use Rattle.plan_model.proofs.Drafting.{begins_empty, goes_on, per_is}
-use Rattle.stream_laws.specs.Rewrites.{is_edited}
-use Rattle.record_streams.specs.Fitting.{FitsButRoom}
-use Rattle.record_streams.proofs.Kept.{but_room_fits}
-use Rattle.draft_records.specs.Records.{written_bytes, fits_room, touch_record}
-use Rattle.plan_growth.specs.Trees.{with_data, TreeFollows}
-use Rattle.plan_values.specs.Values.{is_data}
-use Rattle.plan_values.specs.Made.{MakesData}
-use Rattle.plan_values.specs.Trees.{FileFollows}
-use Rattle.plan_values.proofs.Made.{data_is_made, made_stays}
-use Rattle.plan_edits.specs.Moves.{EditsDraft}
-use Rattle.plan_edits.specs.Records.{PutsRecordOf}
-use Rattle.plan_informed.proofs.Informed.{values_edit}
-use Rattle.plan_changes.specs.Files.{IsChangeable, with_own, Follows}
-use Rattle.plan_changes.specs.Going.{StandsAs}
-use Rattle.plan_changes.specs.Nodes.{NodeBecomes}
-use Rattle.plan_changes.proofs.Going.{files_going}
-use Rattle.plan_changes.proofs.Showing.{files_are}
-use Rattle.data_plan.specs.Changes.{data_in}
-use Rattle.data_plan.specs.Laws.{HasMadeData}
+use Rattle.file_changes.specs.plan_model.Attributes.{IsValue}
+use Rattle.file_changes.specs.plan_model.Drafts.{DraftIn, gives_none}
+use Rattle.file_changes.specs.plan_model.Edits.{LeadsTo}
+use Rattle.file_changes.specs.plan_model.Informed.{with_record}
+use Rattle.file_changes.specs.plan_model.Parts.{ReplacesAttrs}
+use Rattle.file_changes.proofs.plan_model.Drafting.{begins_empty, goes_on, per_is}
+use Rattle.file_changes.specs.stream_laws.Rewrites.{is_edited}
+use Rattle.file_changes.specs.record_streams.Fitting.{FitsButRoom}
+use Rattle.file_changes.proofs.record_streams.Kept.{but_room_fits}
+use Rattle.file_changes.specs.draft_records.Records.{written_bytes, fits_room, touch_record}
+use Rattle.file_changes.specs.plan_growth.Trees.{with_data, TreeFollows}
+use Rattle.file_changes.specs.plan_values.Values.{is_data}
+use Rattle.file_changes.specs.plan_values.Made.{MakesData}
+use Rattle.file_changes.specs.plan_values.Trees.{FileFollows}
+use Rattle.file_changes.proofs.plan_values.Made.{data_is_made, made_stays}
+use Rattle.file_changes.specs.plan_edits.Moves.{EditsDraft}
+use Rattle.file_changes.specs.plan_edits.Records.{PutsRecordOf}
+use Rattle.file_changes.proofs.plan_informed.Informed.{values_edit}
+use Rattle.file_changes.specs.plan_changes.Files.{IsChangeable, with_own, Follows}
+use Rattle.file_changes.specs.plan_changes.Going.{StandsAs}
+use Rattle.file_changes.specs.plan_changes.Nodes.{NodeBecomes}
+use Rattle.file_changes.proofs.plan_changes.Going.{files_going}
+use Rattle.file_changes.proofs.plan_changes.Showing.{files_are}
+use Rattle.made_data.specs.data_plan.Changes.{data_in}
+use Rattle.made_data.specs.data_plan.Laws.{HasMadeData}
 use Rattle.made_data.specs.Laws.{MadeIsCounted}
 use Rattle.made_data.specs.Made.{with_empty_data, made_record, has_data}
-use Rattle.file_puts.specs.declared.streams.VolumeStreams.{VolumeStreams}
-use Rattle.file_puts.specs.Puts.{PutsFileRecord}
-use Rattle.file_puts.specs.Written.{AreStreamsOf}
-use Rattle.written_values.proofs.Joining.{nothing_put, nothing_kept, puts_record}
-use Rattle.written_values.proofs.Owning.{IsOwned, is_owned}
-use Rattle.written_values.proofs.Sparing.{elsewhere}
+use Rattle.file_changes.specs.file_puts.declared.streams.VolumeStreams.{VolumeStreams}
+use Rattle.file_changes.specs.file_puts.Puts.{PutsFileRecord}
+use Rattle.file_changes.specs.file_puts.Written.{AreStreamsOf}
+use Rattle.file_changes.proofs.written_values.Joining.{nothing_put, nothing_kept, puts_record}
+use Rattle.file_changes.proofs.written_values.Owning.{IsOwned, is_owned}
+use Rattle.file_changes.proofs.written_values.Sparing.{elsewhere}
 
 -- A file without unnamed data in a state, of which the record has room with data that is empty.
 pub record LacksData (c : Content) (g : Geometry) (clusters : ℕ) (v : Volume) (s : VolumeStreams) (n : ℕ) (a : Node) (r : Record) : Type 0 where

@@ -14,15 +14,15 @@ use Rattle.state_model.specs.declared.stream.Stream.{Stream}
 use Rattle.state_model.specs.Files.{has_type}
 use Rattle.state_model.specs.Streams.{is_attribute_of, sorted_into, attributes_of, attribute_runs, joined, form_stream, stream_of}
 use Rattle.volume_model.specs.Volumes.{Volume}
-use Rattle.plan_owners.specs.States.{Stands}
-use Rattle.plan_values.proofs.Made.{some_sorted, none_pass}
-use Rattle.plan_changes.specs.Files.{IsChangeable}
-use Rattle.record_streams.specs.Fitting.{FitsButRoom}
-use Rattle.data_plan.specs.Changes.{data_in, ShowsData, HasData}
+use Rattle.file_changes.specs.plan_owners.States.{Stands}
+use Rattle.file_changes.proofs.plan_values.Made.{some_sorted, none_pass}
+use Rattle.file_changes.specs.plan_changes.Files.{IsChangeable}
+use Rattle.file_changes.specs.record_streams.Fitting.{FitsButRoom}
+use Rattle.made_data.specs.data_plan.Changes.{data_in, ShowsData, HasData}
 use Rattle.made_data.specs.Laws.{MadeIsCounted}
 use Rattle.made_data.specs.Made.{has_data, made_record}
 use Rattle.state_files.specs.Files.{HasFewRuns, FilesHaveData}
-use Rattle.written_values.proofs.Owning.{IsOwned, is_owned}
+use Rattle.file_changes.proofs.written_values.Owning.{IsOwned, is_owned}
 use Rattle.written_made.specs.Ready.{AnyFileIsReady}
 
 -- ---- a record that has unnamed data has a stream of it

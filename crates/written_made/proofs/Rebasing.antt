@@ -24,17 +24,17 @@ use Rattle.state_model.specs.declared.stream.Extents.{Extents}
 use Rattle.state_model.specs.Streams.{block_at}
 use Rattle.volume_model.specs.Volumes.{Volume, cluster_bits, table_file, mirror_file, bitmap_file}
 use Rattle.volume_model.specs.Owners.{uses}
-use Rattle.volume_state.specs.Trees.{tree_of}
-use Rattle.stream_laws.specs.Owners.{stream_kind}
-use Rattle.stream_laws.specs.Sharing.{StreamKey}
-use Rattle.stream_laws.specs.Tables.{table_key}
-use Rattle.stream_laws.proofs.Tabling.{table_runs}
+use Rattle.file_changes.specs.volume_state.Trees.{tree_of}
+use Rattle.file_changes.specs.stream_laws.Owners.{stream_kind}
+use Rattle.file_changes.specs.stream_laws.Sharing.{StreamKey}
+use Rattle.file_changes.specs.stream_laws.Tables.{table_key}
+use Rattle.file_changes.proofs.stream_laws.Tabling.{table_runs}
 use Rattle.tree_model.specs.declared.script.Op.{Op}
 use Rattle.tree_model.specs.Needs.{changes_file, needed}
 use Rattle.tree_model.specs.Effects.{ref_at, file_after, HasChanged}
 use Rattle.tree_model.proofs.FileNeeds.{needs_of_change}
-use Rattle.plan_owners.specs.States.{Stands}
-use Rattle.plan_owners.proofs.Standing.{begins}
+use Rattle.file_changes.specs.plan_owners.States.{Stands}
+use Rattle.file_changes.proofs.plan_owners.Standing.{begins}
 use Rattle.plan_bodies.specs.Bodies.{NewBody, content_with, body_in, put_bodies}
 use Rattle.plan_bodies.proofs.Putting.{either}
 use Rattle.plan_draft.specs.declared.touched.Touched.{Touched}
@@ -42,19 +42,19 @@ use Rattle.plan_draft.specs.Touching.{bodies_of}
 use Rattle.plan_draft.specs.Drafts.{drafted}
 use Rattle.plan_draft.specs.Same.{PutSame}
 use Rattle.plan_draft.proofs.Touching.{are_bodies}
-use Rattle.plan_model.specs.Drafts.{FollowsOwners, DraftIn}
-use Rattle.plan_model.specs.Edits.{IsOwnedIn}
-use Rattle.plan_model.proofs.Drafting.{per_is}
-use Rattle.plan_changes.specs.Nodes.{NodeBecomes}
-use Rattle.draft_bits.specs.Effects.{IsKept}
-use Rattle.draft_records.specs.Records.{record_block, is_past, has_mirror, touch_if}
-use Rattle.step_model.specs.Placing.{Growth, AllPlaced}
-use Rattle.step_model.specs.Streams.{data_of}
-use Rattle.step_model.specs.Contents.{same_key, is_among, is_touched, touched_streams, HasGrown, MayDiffer, IsLeft}
-use Rattle.step_model.proofs.Leaving.{contents_left}
+use Rattle.file_changes.specs.plan_model.Drafts.{FollowsOwners, DraftIn}
+use Rattle.file_changes.specs.plan_model.Edits.{IsOwnedIn}
+use Rattle.file_changes.proofs.plan_model.Drafting.{per_is}
+use Rattle.file_changes.specs.plan_changes.Nodes.{NodeBecomes}
+use Rattle.file_changes.specs.draft_bits.Effects.{IsKept}
+use Rattle.file_changes.specs.draft_records.Records.{record_block, is_past, has_mirror, touch_if}
+use Rattle.file_changes.specs.step_model.Placing.{Growth, AllPlaced}
+use Rattle.file_changes.specs.step_model.Streams.{data_of}
+use Rattle.file_changes.specs.step_model.Contents.{same_key, is_among, is_touched, touched_streams, HasGrown, MayDiffer, IsLeft}
+use Rattle.file_changes.proofs.step_model.Leaving.{contents_left}
 use Rattle.made_data.specs.Made.{made_record}
-use Rattle.file_puts.specs.declared.streams.VolumeStreams.{VolumeStreams}
-use Rattle.file_puts.specs.Written.{HasWritten}
+use Rattle.file_changes.specs.file_puts.declared.streams.VolumeStreams.{VolumeStreams}
+use Rattle.file_changes.specs.file_puts.Written.{HasWritten}
 use Rattle.written_made.proofs.Alike.{AreAlike, same_drafted}
 use Rattle.written_made.proofs.Joining.{joined, joined_content}
 use Rattle.written_made.proofs.Making.{touch_made, with_made, made_volume, GetsData}

@@ -1,6 +1,6 @@
 -- A write of a file without unnamed data that is done is a step.
 use Rattle.plan_draft.specs.Drafts.{drafted}
-use Rattle.change_steps.specs.Changes.{ChangesAreSteps, DraftsAreWritten}
+use Rattle.file_changes.specs.change_steps.Changes.{ChangesAreSteps, DraftsAreWritten}
 use Rattle.written_made.specs.Made.{MadeIsDone}
 use Rattle.written_made.specs.Steps.{MadeIsStep}
 

@@ -7,13 +7,13 @@ use Rattle.state_model.specs.declared.geometry.Geometry.{Geometry}
 use Rattle.volume_model.specs.Volumes.{Volume, cluster_bits}
 use Rattle.tree_model.specs.declared.script.Op.{Op}
 use Rattle.plan_draft.specs.declared.touched.Touched.{Touched}
-use Rattle.record_streams.specs.Fitting.{FitsButRoom}
-use Rattle.data_plan.specs.declared.change.DataChange.{DataChange}
-use Rattle.data_plan.specs.Changes.{growth_of}
+use Rattle.file_changes.specs.record_streams.Fitting.{FitsButRoom}
+use Rattle.made_data.specs.data_plan.declared.change.DataChange.{DataChange}
+use Rattle.made_data.specs.data_plan.Changes.{growth_of}
 use Rattle.made_data.specs.Made.{made_record, has_data}
-use Rattle.file_puts.specs.declared.streams.VolumeStreams.{VolumeStreams}
-use Rattle.file_puts.specs.Written.{WritesBy, HasWritten}
-use Rattle.written_clusters.specs.Done.{HasClusters}
+use Rattle.file_changes.specs.file_puts.declared.streams.VolumeStreams.{VolumeStreams}
+use Rattle.file_changes.specs.file_puts.Written.{WritesBy, HasWritten}
+use Rattle.file_changes.specs.written_clusters.Done.{HasClusters}
 
 -- The draft has put what comes of the data of the file's record with data that is empty, where this record has no unnamed data, a spelling but
 -- for its room, and fewer than 1,024 attributes.

@@ -8,10 +8,10 @@ use Rattle.file_tree.specs.declared.node.Node.{Node}
 use Rattle.state_model.specs.declared.geometry.Geometry.{Geometry}
 use Rattle.state_model.specs.Files.{has_type}
 use Rattle.volume_model.specs.Volumes.{Volume}
-use Rattle.plan_owners.specs.States.{Stands}
-use Rattle.plan_changes.specs.Files.{IsChangeable}
-use Rattle.record_streams.specs.Fitting.{FitsButRoom}
-use Rattle.data_plan.specs.Changes.{ShowsData, HasData}
+use Rattle.file_changes.specs.plan_owners.States.{Stands}
+use Rattle.file_changes.specs.plan_changes.Files.{IsChangeable}
+use Rattle.file_changes.specs.record_streams.Fitting.{FitsButRoom}
+use Rattle.made_data.specs.data_plan.Changes.{ShowsData, HasData}
 use Rattle.state_files.specs.Files.{HasFewRuns}
 use Rattle.made_data.specs.Made.{record_with_data}
 

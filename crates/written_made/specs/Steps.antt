@@ -9,13 +9,13 @@ use Rattle.tree_model.specs.declared.script.Op.{Op}
 use Rattle.change_lookup.specs.declared.found.Found.TheVariants.{File}
 use Rattle.plan_draft.specs.declared.touched.Touched.{Touched}
 use Rattle.plan_draft.specs.Drafts.{drafted}
-use Rattle.step_model.specs.Steps.{Step}
-use Rattle.data_plan.specs.declared.change.DataChange.{DataChange}
-use Rattle.data_plan.specs.Changes.{row_of}
-use Rattle.file_puts.specs.declared.streams.VolumeStreams.{VolumeStreams}
-use Rattle.change_steps.specs.Found.{HasChange, Finds}
-use Rattle.change_steps.specs.Changes.{change_reply}
-use Rattle.written_clusters.specs.Done.{HasClusters}
+use Rattle.file_changes.specs.step_model.Steps.{Step}
+use Rattle.made_data.specs.data_plan.declared.change.DataChange.{DataChange}
+use Rattle.made_data.specs.data_plan.Changes.{row_of}
+use Rattle.file_changes.specs.file_puts.declared.streams.VolumeStreams.{VolumeStreams}
+use Rattle.file_changes.specs.change_steps.Found.{HasChange, Finds}
+use Rattle.file_changes.specs.change_steps.Changes.{change_reply}
+use Rattle.file_changes.specs.written_clusters.Done.{HasClusters}
 use Rattle.written_made.specs.Made.{WritesMade}
 
 -- Such a file is found to be written or cut, no row of its record refuses it, as many clusters are clear as its data comes to take, and the

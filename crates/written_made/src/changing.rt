@@ -1,20 +1,19 @@
 //! A file without unnamed data that is written or cut.
 ghost use Rattle.std.specs.Prelude.{◌≡◌, ◌<◌, ◌^◌, false, length};
 ghost use Rattle.block_view.specs.Views.{AsksView};
-ghost use Rattle.record_streams.specs.Fitting.{FitsButRoom};
+ghost use Rattle.file_changes.specs.record_streams.Fitting.{FitsButRoom};
 ghost use Rattle.made_data.specs.Made.{made_record, has_data, record_with_data};
-ghost use Rattle.file_writes.specs.Faults.{write_cause};
-ghost use Rattle.file_writes.specs.Writing.{MayWrite};
+ghost use Rattle.file_changes.specs.file_writes.Faults.{write_cause};
+ghost use Rattle.file_changes.specs.file_writes.Writing.{MayWrite};
 ghost use Rattle.file_changes.specs.Changes.{ChangesFile};
 
 use crate::laws::{made_is_done, made_is_step};
 use block_view::View;
-use change_steps::{bare_is_enough, changes_are_steps, files_are_ready};
-use file_changes::change_file;
-use file_puts::VolumeStreams;
-use file_record::FileRec;
+use file_changes::{
+    FileRec, VolumeStreams, WriteFault, bare_is_enough, change_file, changes_are_steps,
+    files_are_ready, write_file,
+};
 use file_tree::Node;
-use file_writes::{WriteFault, write_file};
 use made_data::{has_data, made_is_counted, make_data};
 use plan_draft::Draft;
 use plan_space::FreeBits;

@@ -3,11 +3,9 @@ ghost use Rattle.written_made.specs.Made.{MadeIsDone};
 ghost use Rattle.written_made.specs.Ready.{AnyFileIsReady};
 ghost use Rattle.written_made.specs.Steps.{MadeIsStep};
 
-use change_steps::{changes_are_steps, drafts_are_written};
+use file_changes::{changes_are_steps, drafts_are_written, leaving_is_done, values_are_done};
 use made_data::made_is_counted;
 use state_files::files_have_data;
-use written_clusters::leaving_is_done;
-use written_values::values_are_done;
 
 /// Law: where a draft has put what comes of the data of a file that had none, by its record with data
 /// that is empty, and it has clusters enough, the draft stands for a state, and the operation has

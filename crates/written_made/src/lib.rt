@@ -12,5 +12,8 @@ mod laws;
 pub use changing::{change_any_file, change_without_data};
 pub use file_changes::{
     ClusterSize, Draft, FileRec, FreeBits, Node, Op, View, VolumeStreams, WriteFault,
+    changes_are_steps, data_extents, file, files_are_ready, found_is_there, reads_the_table,
 };
 pub use laws::{any_file_is_ready, made_is_done, made_is_step};
+pub use made_data::{has_data, made_is_counted, make_data};
+pub use state_files::{files_have_data, streams_of_states};

@@ -6,22 +6,22 @@ use Rattle.disk_model.specs.Content.{Content}
 use Rattle.record_model.specs.declared.values.StdInfo.{StdInfo}
 use Rattle.record_model.specs.Records.{Record}
 use Rattle.file_tree.specs.declared.node.Node.{Node}
-use Rattle.state_model.specs.declared.stream.Extents.{Extents}
-use Rattle.state_model.specs.declared.stream.Stream.TheVariants.{Held, Placed}
-use Rattle.state_model.specs.Files.{info_of}
-use Rattle.state_model.specs.Loads.{total_clusters}
-use Rattle.volume_model.specs.Volumes.{Volume}
+use Rattle.change_steps.specs.state_model.declared.stream.Extents.{Extents}
+use Rattle.change_steps.specs.state_model.declared.stream.Stream.TheVariants.{Held, Placed}
+use Rattle.change_steps.specs.state_model.Files.{info_of}
+use Rattle.change_steps.specs.state_model.Loads.{total_clusters}
+use Rattle.change_steps.specs.volume_model.Volumes.{Volume}
 use Rattle.tree_model.specs.declared.script.Op.{Op}
 use Rattle.tree_model.specs.declared.script.Op.TheVariants as op
 use Rattle.tree_model.specs.Needs.{size_after, shrinks, changes_file}
 use Rattle.tree_model.specs.Effects.{bytes_after, valid_after, clusters_after, zeros_up_to, put_at}
-use Rattle.resized_streams.specs.Resizing.{shortened, with_sizes}
-use Rattle.record_times.specs.Times.{timed_info}
-use Rattle.plan_changes.specs.Bytes.{HasSizes}
-use Rattle.plan_changes.specs.Changes.{IsDataAfter, Stamps}
-use Rattle.plan_changes.specs.Files.{Shows}
-use Rattle.plan_changes.proofs.Changing.{changes_done}
-use Rattle.file_puts.specs.Puts.{with_bytes}
+use Rattle.change_steps.specs.resized_streams.Resizing.{shortened, with_sizes}
+use Rattle.change_steps.specs.record_times.Times.{timed_info}
+use Rattle.change_steps.specs.plan_changes.Bytes.{HasSizes}
+use Rattle.change_steps.specs.plan_changes.Changes.{IsDataAfter, Stamps}
+use Rattle.change_steps.specs.plan_changes.Files.{Shows}
+use Rattle.change_steps.proofs.plan_changes.Changing.{changes_done}
+use Rattle.change_steps.specs.file_puts.Puts.{with_bytes}
 
 -- ---- a value
 

@@ -9,58 +9,58 @@ use Rattle.record_model.specs.Pairs.{HasSpelling}
 use Rattle.record_model.specs.Records.{Record}
 use Rattle.bit_set.specs.Bits.{bit}
 use Rattle.file_tree.specs.declared.node.Node.{Node}
-use Rattle.state_model.specs.declared.geometry.Geometry.{Geometry}
-use Rattle.state_model.specs.declared.stream.Extents.{Extents}
-use Rattle.state_model.specs.declared.stream.Stream.{Stream}
-use Rattle.state_model.specs.declared.stream.Stream.TheVariants.{Placed}
-use Rattle.state_model.specs.Loads.{total_clusters}
-use Rattle.volume_model.specs.Volumes.{Volume, file_stream, bytes_or, size_or, cluster_bits}
-use Rattle.volume_model.specs.Nodes.{valid_or}
-use Rattle.volume_model.specs.Owners.{uses}
-use Rattle.volume_model.specs.Sizes.{has_hole}
-use Rattle.stream_laws.specs.Sharing.{stream_at, runs_in}
-use Rattle.stream_runs.specs.Runs.{front}
-use Rattle.stream_runs.proofs.Merging.{uses-merged, follow-merged}
-use Rattle.stream_runs.proofs.Parts.{uses_parts, follow-front}
+use Rattle.change_steps.specs.state_model.declared.geometry.Geometry.{Geometry}
+use Rattle.change_steps.specs.state_model.declared.stream.Extents.{Extents}
+use Rattle.change_steps.specs.state_model.declared.stream.Stream.{Stream}
+use Rattle.change_steps.specs.state_model.declared.stream.Stream.TheVariants.{Placed}
+use Rattle.change_steps.specs.state_model.Loads.{total_clusters}
+use Rattle.change_steps.specs.volume_model.Volumes.{Volume, file_stream, bytes_or, size_or, cluster_bits}
+use Rattle.change_steps.specs.volume_model.Nodes.{valid_or}
+use Rattle.change_steps.specs.volume_model.Owners.{uses}
+use Rattle.change_steps.specs.volume_model.Sizes.{has_hole}
+use Rattle.change_steps.specs.stream_laws.Sharing.{stream_at, runs_in}
+use Rattle.change_steps.specs.stream_runs.Runs.{front}
+use Rattle.change_steps.proofs.stream_runs.Merging.{uses-merged, follow-merged}
+use Rattle.change_steps.proofs.stream_runs.Parts.{uses_parts, follow-front}
 use Rattle.tree_model.specs.declared.script.Op.{Op}
 use Rattle.tree_model.specs.Needs.{size_after}
-use Rattle.plan_owners.specs.States.{Stands}
+use Rattle.change_steps.specs.plan_owners.States.{Stands}
 use Rattle.plan_bodies.specs.Bodies.{NewBody}
 use Rattle.plan_bodies.proofs.Putting.{sized_with}
-use Rattle.plan_draft.specs.declared.touched.Touched.{Touched}
-use Rattle.plan_draft.specs.Touching.{bodies_of}
-use Rattle.plan_draft.specs.Drafts.{drafted}
-use Rattle.plan_model.specs.Informed.{with_record}
-use Rattle.plan_model.proofs.Drafting.{per_is}
-use Rattle.record_streams.specs.Placing.{placed_record}
-use Rattle.record_times.specs.Laws.{TimesAreSet}
-use Rattle.draft_records.specs.Records.{written_record}
-use Rattle.draft_resized.specs.Effects.{PutsWhole}
-use Rattle.draft_resized.specs.Resized.{PutsResized}
-use Rattle.draft_resized.proofs.FileEffects.{resized_put}
-use Rattle.resized_streams.specs.declared.resized.Resized.{Resized}
-use Rattle.resized_streams.specs.Resizing.{clusters_for, shortened, IsCut}
-use Rattle.plan_growth.specs.Cutting.{CutsStream}
-use Rattle.plan_growth.specs.Streams.{IsOwnStream, IsWritten, key_of, marks_streams}
-use Rattle.plan_growth.specs.Trees.{TreeFollows}
-use Rattle.plan_growth.proofs.Cutting.{cut_leads, cut_goes_on, cut_bytes, cut_tree}
-use Rattle.plan_growth.proofs.Resizing.{not_marked}
-use Rattle.plan_growth.proofs.Ruled.{stream_fits, sizes_lawful}
-use Rattle.plan_edits.specs.Edits.{PutsOfVolume, IsEdit}
-use Rattle.plan_edits.specs.Moves.{EditsDraft}
-use Rattle.plan_edits.proofs.Bitmap.{state_bitmap}
-use Rattle.plan_edits.proofs.Editing.{resized_edit}
-use Rattle.plan_changes.specs.Changes.{IsDataAfter}
-use Rattle.plan_changes.specs.Files.{IsChangeable, Shows, with_own, Follows}
-use Rattle.plan_changes.specs.Going.{GoesOnIn}
-use Rattle.plan_changes.proofs.Falling.{rooms_are}
-use Rattle.plan_changes.proofs.Going.{files_going}
-use Rattle.plan_changes.proofs.Showing.{files_are}
-use Rattle.step_model.specs.Contents.{MayDiffer}
-use Rattle.data_plan.specs.declared.change.DataChange.TheVariants as change
-use Rattle.data_plan.specs.Changes.{data_in, growth_of, StandsBelow, LiesBelow}
-use Rattle.file_puts.specs.declared.streams.VolumeStreams.{VolumeStreams}
-use Rattle.file_puts.specs.Written.{WritesFile, HasWritten}
+use Rattle.change_steps.specs.plan_draft.declared.touched.Touched.{Touched}
+use Rattle.change_steps.specs.plan_draft.Touching.{bodies_of}
+use Rattle.change_steps.specs.plan_draft.Drafts.{drafted}
+use Rattle.change_steps.specs.plan_model.Informed.{with_record}
+use Rattle.change_steps.proofs.plan_model.Drafting.{per_is}
+use Rattle.change_steps.specs.record_streams.Placing.{placed_record}
+use Rattle.change_steps.specs.record_times.Laws.{TimesAreSet}
+use Rattle.change_steps.specs.draft_records.Records.{written_record}
+use Rattle.change_steps.specs.draft_resized.Effects.{PutsWhole}
+use Rattle.change_steps.specs.draft_resized.Resized.{PutsResized}
+use Rattle.change_steps.proofs.draft_resized.FileEffects.{resized_put}
+use Rattle.change_steps.specs.resized_streams.declared.resized.Resized.{Resized}
+use Rattle.change_steps.specs.resized_streams.Resizing.{clusters_for, shortened, IsCut}
+use Rattle.change_steps.specs.plan_growth.Cutting.{CutsStream}
+use Rattle.change_steps.specs.plan_growth.Streams.{IsOwnStream, IsWritten, key_of, marks_streams}
+use Rattle.change_steps.specs.plan_growth.Trees.{TreeFollows}
+use Rattle.change_steps.proofs.plan_growth.Cutting.{cut_leads, cut_goes_on, cut_bytes, cut_tree}
+use Rattle.change_steps.proofs.plan_growth.Resizing.{not_marked}
+use Rattle.change_steps.proofs.plan_growth.Ruled.{stream_fits, sizes_lawful}
+use Rattle.change_steps.specs.plan_edits.Edits.{PutsOfVolume, IsEdit}
+use Rattle.change_steps.specs.plan_edits.Moves.{EditsDraft}
+use Rattle.change_steps.proofs.plan_edits.Bitmap.{state_bitmap}
+use Rattle.change_steps.proofs.plan_edits.Editing.{resized_edit}
+use Rattle.change_steps.specs.plan_changes.Changes.{IsDataAfter}
+use Rattle.change_steps.specs.plan_changes.Files.{IsChangeable, Shows, with_own, Follows}
+use Rattle.change_steps.specs.plan_changes.Going.{GoesOnIn}
+use Rattle.change_steps.proofs.plan_changes.Falling.{rooms_are}
+use Rattle.change_steps.proofs.plan_changes.Going.{files_going}
+use Rattle.change_steps.proofs.plan_changes.Showing.{files_are}
+use Rattle.change_steps.specs.step_model.Contents.{MayDiffer}
+use Rattle.change_steps.specs.data_plan.declared.change.DataChange.TheVariants as change
+use Rattle.change_steps.specs.data_plan.Changes.{data_in, growth_of, StandsBelow, LiesBelow}
+use Rattle.change_steps.specs.file_puts.declared.streams.VolumeStreams.{VolumeStreams}
+use Rattle.change_steps.specs.file_puts.Written.{WritesFile, HasWritten}
 use Rattle.written_values.specs.Laws.{CutsAreDone}
 use Rattle.written_values.proofs.Owning.{IsOwned, is_owned, own_stream}
 use Rattle.written_values.proofs.Becoming.{cut_after}

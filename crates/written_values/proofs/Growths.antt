@@ -3,23 +3,23 @@ use Rattle.std.proofs.Common.{◌≡◌, ℕ, ◌<◌, ◌≤◌, min, max, Bool
 use Rattle.std.proofs.lemmas.Bool.{both_ways, cases_Bool, cases_lt}
 use Rattle.record_model.specs.Records.{Record}
 use Rattle.file_tree.specs.declared.node.Node.{Node}
-use Rattle.state_model.specs.declared.stream.Extents.{Extents}
-use Rattle.state_model.specs.declared.stream.Stream.{Stream}
-use Rattle.state_model.specs.declared.stream.Stream.TheVariants.{Held, Placed}
-use Rattle.state_model.specs.Loads.{total_clusters}
-use Rattle.stream_laws.specs.Sharing.{runs_in}
-use Rattle.stream_runs.specs.Runs.{front, last_cluster}
-use Rattle.stream_runs.proofs.Merging.{total-merged}
-use Rattle.stream_runs.proofs.Parts.{total-front}
-use Rattle.space_model.specs.Choosing.{chosen}
+use Rattle.change_steps.specs.state_model.declared.stream.Extents.{Extents}
+use Rattle.change_steps.specs.state_model.declared.stream.Stream.{Stream}
+use Rattle.change_steps.specs.state_model.declared.stream.Stream.TheVariants.{Held, Placed}
+use Rattle.change_steps.specs.state_model.Loads.{total_clusters}
+use Rattle.change_steps.specs.stream_laws.Sharing.{runs_in}
+use Rattle.change_steps.specs.stream_runs.Runs.{front, last_cluster}
+use Rattle.change_steps.proofs.stream_runs.Merging.{total-merged}
+use Rattle.change_steps.proofs.stream_runs.Parts.{total-front}
+use Rattle.change_steps.specs.space_model.Choosing.{chosen}
 use Rattle.tree_model.specs.declared.script.Op.{Op}
 use Rattle.tree_model.specs.Needs.{size_after, shrinks, clusters_for}
 use Rattle.tree_model.specs.Effects.{clusters_after}
-use Rattle.step_model.specs.Placing.{Growth, more_of, runs_after}
-use Rattle.step_model.specs.Used.{is_in_record}
-use Rattle.step_model.specs.Streams.{Comes, in_record, placed_among, data_of, wanted_data}
-use Rattle.data_plan.specs.Changes.{data_in, growth_of}
-use Rattle.data_plan.proofs.Cases.{StaysIn, comes_by, stays_held, clusters_by, placed_comes, chosen_none, runs_cut, runs_same}
+use Rattle.change_steps.specs.step_model.Placing.{Growth, more_of, runs_after}
+use Rattle.change_steps.specs.step_model.Used.{is_in_record}
+use Rattle.change_steps.specs.step_model.Streams.{Comes, in_record, placed_among, data_of, wanted_data}
+use Rattle.change_steps.specs.data_plan.Changes.{data_in, growth_of}
+use Rattle.change_steps.proofs.data_plan.Cases.{StaysIn, comes_by, stays_held, clusters_by, placed_comes, chosen_none, runs_cut, runs_same}
 
 -- ---- all growths
 

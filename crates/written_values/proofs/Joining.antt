@@ -7,28 +7,28 @@ use Rattle.disk_model.specs.declared.block.BlockKind.{BlockKind}
 use Rattle.disk_model.specs.Content.{Content, HasSizes}
 use Rattle.bit_set.specs.Bits.{bit}
 use Rattle.record_model.specs.Records.{Record, record_spelling}
-use Rattle.state_model.specs.declared.geometry.Geometry.{Geometry}
-use Rattle.state_model.specs.declared.stream.Extents.{Extents}
-use Rattle.state_model.specs.Loads.{extents_or}
-use Rattle.volume_model.specs.Volumes.{Volume, cluster_bits}
-use Rattle.stream_laws.specs.Sharing.{stream_at}
-use Rattle.plan_owners.specs.States.{Stands}
+use Rattle.change_steps.specs.state_model.declared.geometry.Geometry.{Geometry}
+use Rattle.change_steps.specs.state_model.declared.stream.Extents.{Extents}
+use Rattle.change_steps.specs.state_model.Loads.{extents_or}
+use Rattle.change_steps.specs.volume_model.Volumes.{Volume, cluster_bits}
+use Rattle.change_steps.specs.stream_laws.Sharing.{stream_at}
+use Rattle.change_steps.specs.plan_owners.States.{Stands}
 use Rattle.plan_bodies.specs.Bodies.{NewBody, content_with, put_bodies}
 use Rattle.plan_bodies.proofs.Putting.{body_put, contents_put}
-use Rattle.plan_draft.specs.declared.touched.Touched.{Touched}
-use Rattle.plan_draft.specs.Touching.{bodies_of, rises, IsWhole}
-use Rattle.plan_draft.specs.Drafts.{drafted}
-use Rattle.plan_draft.specs.Same.{PutSame}
-use Rattle.plan_model.specs.Drafts.{DraftIn, GoesOn, gives_none}
-use Rattle.plan_model.proofs.Drafting.{begins_empty, goes_on}
-use Rattle.draft_bits.specs.Effects.{IsKept}
-use Rattle.draft_records.specs.Records.{written_record, touch_record}
-use Rattle.plan_edits.specs.Edits.{mirror_key}
-use Rattle.plan_edits.specs.Moves.{EditsDraft}
-use Rattle.plan_edits.specs.Records.{PutsRecordOf}
-use Rattle.plan_edits.proofs.Putting.{drafts_put}
-use Rattle.file_puts.specs.declared.streams.VolumeStreams.{VolumeStreams}
-use Rattle.file_puts.specs.Puts.{PutsFileRecord}
+use Rattle.change_steps.specs.plan_draft.declared.touched.Touched.{Touched}
+use Rattle.change_steps.specs.plan_draft.Touching.{bodies_of, rises, IsWhole}
+use Rattle.change_steps.specs.plan_draft.Drafts.{drafted}
+use Rattle.change_steps.specs.plan_draft.Same.{PutSame}
+use Rattle.change_steps.specs.plan_model.Drafts.{DraftIn, GoesOn, gives_none}
+use Rattle.change_steps.proofs.plan_model.Drafting.{begins_empty, goes_on}
+use Rattle.change_steps.specs.draft_bits.Effects.{IsKept}
+use Rattle.change_steps.specs.draft_records.Records.{written_record, touch_record}
+use Rattle.change_steps.specs.plan_edits.Edits.{mirror_key}
+use Rattle.change_steps.specs.plan_edits.Moves.{EditsDraft}
+use Rattle.change_steps.specs.plan_edits.Records.{PutsRecordOf}
+use Rattle.change_steps.proofs.plan_edits.Putting.{drafts_put}
+use Rattle.change_steps.specs.file_puts.declared.streams.VolumeStreams.{VolumeStreams}
+use Rattle.change_steps.specs.file_puts.Puts.{PutsFileRecord}
 
 -- ---- a draft that touched nothing
 

@@ -1,3 +1,22 @@
+pub use Rattle.change_steps.proofs as change_steps
+pub use Rattle.change_steps.proofs.data_plan
+pub use Rattle.change_steps.proofs.draft_records
+pub use Rattle.change_steps.proofs.draft_resized
+pub use Rattle.change_steps.proofs.plan_changes
+pub use Rattle.change_steps.proofs.plan_edits
+pub use Rattle.change_steps.proofs.plan_informed
+pub use Rattle.change_steps.proofs.plan_model
+pub use Rattle.change_steps.proofs.plan_owners
+pub use Rattle.change_steps.proofs.plan_values
+pub use Rattle.change_steps.proofs.record_streams
+pub use Rattle.change_steps.proofs.record_writer
+pub use Rattle.change_steps.proofs.resized_streams
+pub use Rattle.change_steps.proofs.step_model
+pub use Rattle.change_steps.proofs.stream_laws
+pub use Rattle.change_steps.proofs.stream_map
+pub use Rattle.change_steps.proofs.stream_runs
+pub use Rattle.change_steps.proofs.tree_laws
+pub use Rattle.change_steps.proofs.used_laws
 pub mod Owning
 pub mod Growths
 pub mod Becoming

@@ -8,26 +8,26 @@ use Rattle.file_tree.specs.declared.link.Link.{Link}
 use Rattle.file_tree.specs.declared.node.Kind.TheVariants.{Directory, File, Fixed, Opaque, System}
 use Rattle.file_tree.specs.declared.node.Node.{Node}
 use Rattle.file_tree.specs.Walks.{first_user_record}
-use Rattle.state_model.specs.declared.geometry.Geometry.{Geometry}
-use Rattle.state_model.specs.declared.stream.Stream.{Stream}
-use Rattle.state_model.specs.Files.{Table, record_links, is_directory_record, has_type, is_sparse}
-use Rattle.state_model.specs.Loads.{data_stream}
-use Rattle.state_model.specs.Rules.{at_file, keeps_names, keeps_1}
-use Rattle.state_model.specs.Trees.{is_system}
-use Rattle.volume_model.specs.Volumes.{Volume, count_of, file_in, files_by_number}
-use Rattle.volume_model.specs.Nodes.{data_flags, is_unread, is_unchanged, kind_in}
-use Rattle.volume_model.specs.Sizes.{has_hole}
-use Rattle.volume_state.specs.Rules.{broken_1}
-use Rattle.stream_laws.proofs.Tabling.{inside_list}
-use Rattle.tree_laws.proofs.Keeping.{rules_of, passes_below}
-use Rattle.plan_owners.specs.States.{Stands}
-use Rattle.plan_owners.proofs.Standing.{some_file}
-use Rattle.plan_growth.specs.Streams.{IsOwnStream}
-use Rattle.plan_values.specs.Values.{IsOwnFile}
-use Rattle.plan_values.proofs.Valued.{entries_named}
-use Rattle.plan_changes.specs.Files.{IsChangeable}
-use Rattle.plan_changes.proofs.Showing.{files_are}
-use Rattle.data_plan.specs.Changes.{data_in}
+use Rattle.change_steps.specs.state_model.declared.geometry.Geometry.{Geometry}
+use Rattle.change_steps.specs.state_model.declared.stream.Stream.{Stream}
+use Rattle.change_steps.specs.state_model.Files.{Table, record_links, is_directory_record, has_type, is_sparse}
+use Rattle.change_steps.specs.state_model.Loads.{data_stream}
+use Rattle.change_steps.specs.state_model.Rules.{at_file, keeps_names, keeps_1}
+use Rattle.change_steps.specs.state_model.Trees.{is_system}
+use Rattle.change_steps.specs.volume_model.Volumes.{Volume, count_of, file_in, files_by_number}
+use Rattle.change_steps.specs.volume_model.Nodes.{data_flags, is_unread, is_unchanged, kind_in}
+use Rattle.change_steps.specs.volume_model.Sizes.{has_hole}
+use Rattle.change_steps.specs.volume_state.Rules.{broken_1}
+use Rattle.change_steps.proofs.stream_laws.Tabling.{inside_list}
+use Rattle.change_steps.proofs.tree_laws.Keeping.{rules_of, passes_below}
+use Rattle.change_steps.specs.plan_owners.States.{Stands}
+use Rattle.change_steps.proofs.plan_owners.Standing.{some_file}
+use Rattle.change_steps.specs.plan_growth.Streams.{IsOwnStream}
+use Rattle.change_steps.specs.plan_values.Values.{IsOwnFile}
+use Rattle.change_steps.proofs.plan_values.Valued.{entries_named}
+use Rattle.change_steps.specs.plan_changes.Files.{IsChangeable}
+use Rattle.change_steps.proofs.plan_changes.Showing.{files_are}
+use Rattle.change_steps.specs.data_plan.Changes.{data_in}
 
 -- ---- its kind
 

@@ -14,65 +14,65 @@ use Rattle.record_model.specs.Records.{Record}
 use Rattle.bit_set.specs.Bits.{bit}
 use Rattle.file_tree.specs.declared.node.Node.{Node}
 use Rattle.file_tree.specs.Walks.{first_user_record}
-use Rattle.state_model.specs.declared.geometry.Geometry.{Geometry}
-use Rattle.state_model.specs.declared.stream.Extents.{Extents}
-use Rattle.state_model.specs.declared.stream.Stream.{Stream}
-use Rattle.state_model.specs.declared.stream.Stream.TheVariants.{Placed}
-use Rattle.state_model.specs.Loads.{total_clusters}
-use Rattle.volume_model.specs.Volumes.{Volume, bytes_or, size_or, cluster_bits, table_file, mirror_file}
-use Rattle.volume_model.specs.Nodes.{valid_or}
-use Rattle.volume_model.specs.Owners.{uses}
-use Rattle.volume_model.specs.Sizes.{has_hole, has_sizes, lies_inside}
-use Rattle.stream_laws.specs.Frames.{SameBytesIn}
-use Rattle.stream_laws.specs.Owners.{stream_kind}
-use Rattle.stream_laws.specs.Sharing.{runs_in}
-use Rattle.stream_laws.proofs.Framing.{same_extents}
-use Rattle.stream_laws.proofs.Growing.{stream_cut}
-use Rattle.stream_map.proofs.Reading.{kind-block_at}
+use Rattle.change_steps.specs.state_model.declared.geometry.Geometry.{Geometry}
+use Rattle.change_steps.specs.state_model.declared.stream.Extents.{Extents}
+use Rattle.change_steps.specs.state_model.declared.stream.Stream.{Stream}
+use Rattle.change_steps.specs.state_model.declared.stream.Stream.TheVariants.{Placed}
+use Rattle.change_steps.specs.state_model.Loads.{total_clusters}
+use Rattle.change_steps.specs.volume_model.Volumes.{Volume, bytes_or, size_or, cluster_bits, table_file, mirror_file}
+use Rattle.change_steps.specs.volume_model.Nodes.{valid_or}
+use Rattle.change_steps.specs.volume_model.Owners.{uses}
+use Rattle.change_steps.specs.volume_model.Sizes.{has_hole, has_sizes, lies_inside}
+use Rattle.change_steps.specs.stream_laws.Frames.{SameBytesIn}
+use Rattle.change_steps.specs.stream_laws.Owners.{stream_kind}
+use Rattle.change_steps.specs.stream_laws.Sharing.{runs_in}
+use Rattle.change_steps.proofs.stream_laws.Framing.{same_extents}
+use Rattle.change_steps.proofs.stream_laws.Growing.{stream_cut}
+use Rattle.change_steps.proofs.stream_map.Reading.{kind-block_at}
 use Rattle.tree_model.specs.declared.script.Op.{Op}
 use Rattle.tree_model.specs.Needs.{size_after, shrinks}
 use Rattle.tree_model.specs.Effects.{valid_after}
-use Rattle.plan_owners.specs.States.{Stands}
+use Rattle.change_steps.specs.plan_owners.States.{Stands}
 use Rattle.plan_bodies.specs.Bodies.{NewBody}
 use Rattle.plan_bodies.proofs.Putting.{sized_with}
-use Rattle.plan_draft.specs.declared.touched.Touched.{Touched}
-use Rattle.plan_draft.specs.Touching.{bodies_of}
-use Rattle.plan_draft.specs.Drafts.{drafted}
-use Rattle.plan_model.specs.Informed.{with_record}
-use Rattle.plan_model.proofs.Drafting.{per_is}
-use Rattle.plan_model.proofs.OneRecord.{OwnRecord, own_record}
-use Rattle.record_streams.specs.Placing.{placed_record}
-use Rattle.record_times.specs.Laws.{TimesAreSet}
-use Rattle.draft_bits.specs.Effects.{IsKept}
-use Rattle.draft_bits.proofs.BitEffects.{drafted_same}
-use Rattle.draft_records.specs.Records.{written_record}
-use Rattle.draft_streams.specs.Parts.{touch_sectors, touch_bytes}
-use Rattle.resized_streams.specs.declared.resized.Resized.{Resized}
-use Rattle.resized_streams.specs.Resizing.{with_sizes, IsSized}
-use Rattle.plan_growth.specs.Sizing.{SizesStream}
-use Rattle.plan_growth.specs.Streams.{IsOwnStream, IsWritten, key_of}
-use Rattle.plan_growth.specs.Trees.{TreeFollows}
-use Rattle.plan_growth.proofs.Ruled.{stream_fits}
-use Rattle.plan_growth.proofs.Sizing.{sized_leads, sized_goes_on, sized_tree}
-use Rattle.plan_edits.specs.Moves.{EditsDraft}
-use Rattle.plan_edits.specs.Records.{PutsRecordOf, IsRecordEdit}
-use Rattle.plan_edits.specs.Sizes.{SizesWith, SizesOfVolume}
-use Rattle.plan_edits.specs.Written.{IsInUse}
-use Rattle.plan_edits.proofs.Reading.{written_read}
-use Rattle.plan_edits.proofs.Recording.{record_edit, new_kept, sectors_stay}
-use Rattle.plan_edits.proofs.Sizing.{sized_edit}
-use Rattle.plan_changes.specs.Changes.{IsDataAfter}
-use Rattle.plan_changes.specs.Files.{IsChangeable, Shows, with_own, Follows}
-use Rattle.plan_changes.specs.Going.{GoesOnIn}
-use Rattle.plan_changes.proofs.Falling.{rooms_are}
-use Rattle.plan_changes.proofs.Going.{files_going}
-use Rattle.plan_changes.proofs.Showing.{files_are}
-use Rattle.step_model.specs.Contents.{MayDiffer}
-use Rattle.data_plan.specs.declared.change.DataChange.TheVariants as change
-use Rattle.data_plan.specs.Changes.{data_in, growth_of, StandsBelow, LiesBelow}
-use Rattle.file_puts.specs.declared.streams.VolumeStreams.{VolumeStreams}
-use Rattle.file_puts.specs.Puts.{PutsSized, PutsShorter}
-use Rattle.file_puts.specs.Written.{WritesFile, HasWritten}
+use Rattle.change_steps.specs.plan_draft.declared.touched.Touched.{Touched}
+use Rattle.change_steps.specs.plan_draft.Touching.{bodies_of}
+use Rattle.change_steps.specs.plan_draft.Drafts.{drafted}
+use Rattle.change_steps.specs.plan_model.Informed.{with_record}
+use Rattle.change_steps.proofs.plan_model.Drafting.{per_is}
+use Rattle.change_steps.proofs.plan_model.OneRecord.{OwnRecord, own_record}
+use Rattle.change_steps.specs.record_streams.Placing.{placed_record}
+use Rattle.change_steps.specs.record_times.Laws.{TimesAreSet}
+use Rattle.change_steps.specs.draft_bits.Effects.{IsKept}
+use Rattle.change_steps.proofs.draft_bits.BitEffects.{drafted_same}
+use Rattle.change_steps.specs.draft_records.Records.{written_record}
+use Rattle.change_steps.specs.draft_streams.Parts.{touch_sectors, touch_bytes}
+use Rattle.change_steps.specs.resized_streams.declared.resized.Resized.{Resized}
+use Rattle.change_steps.specs.resized_streams.Resizing.{with_sizes, IsSized}
+use Rattle.change_steps.specs.plan_growth.Sizing.{SizesStream}
+use Rattle.change_steps.specs.plan_growth.Streams.{IsOwnStream, IsWritten, key_of}
+use Rattle.change_steps.specs.plan_growth.Trees.{TreeFollows}
+use Rattle.change_steps.proofs.plan_growth.Ruled.{stream_fits}
+use Rattle.change_steps.proofs.plan_growth.Sizing.{sized_leads, sized_goes_on, sized_tree}
+use Rattle.change_steps.specs.plan_edits.Moves.{EditsDraft}
+use Rattle.change_steps.specs.plan_edits.Records.{PutsRecordOf, IsRecordEdit}
+use Rattle.change_steps.specs.plan_edits.Sizes.{SizesWith, SizesOfVolume}
+use Rattle.change_steps.specs.plan_edits.Written.{IsInUse}
+use Rattle.change_steps.proofs.plan_edits.Reading.{written_read}
+use Rattle.change_steps.proofs.plan_edits.Recording.{record_edit, new_kept, sectors_stay}
+use Rattle.change_steps.proofs.plan_edits.Sizing.{sized_edit}
+use Rattle.change_steps.specs.plan_changes.Changes.{IsDataAfter}
+use Rattle.change_steps.specs.plan_changes.Files.{IsChangeable, Shows, with_own, Follows}
+use Rattle.change_steps.specs.plan_changes.Going.{GoesOnIn}
+use Rattle.change_steps.proofs.plan_changes.Falling.{rooms_are}
+use Rattle.change_steps.proofs.plan_changes.Going.{files_going}
+use Rattle.change_steps.proofs.plan_changes.Showing.{files_are}
+use Rattle.change_steps.specs.step_model.Contents.{MayDiffer}
+use Rattle.change_steps.specs.data_plan.declared.change.DataChange.TheVariants as change
+use Rattle.change_steps.specs.data_plan.Changes.{data_in, growth_of, StandsBelow, LiesBelow}
+use Rattle.change_steps.specs.file_puts.declared.streams.VolumeStreams.{VolumeStreams}
+use Rattle.change_steps.specs.file_puts.Puts.{PutsSized, PutsShorter}
+use Rattle.change_steps.specs.file_puts.Written.{WritesFile, HasWritten}
 use Rattle.written_values.specs.Laws.{ShorterAreDone}
 use Rattle.written_values.proofs.Owning.{IsOwned, is_owned, own_stream}
 use Rattle.written_values.proofs.Growths.{same_clusters}

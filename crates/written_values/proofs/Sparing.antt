@@ -15,37 +15,37 @@ use Rattle.record_model.specs.declared.runs.Run.{Run}
 use Rattle.record_model.specs.Pairs.{HasSpelling}
 use Rattle.file_tree.specs.declared.node.Node.{Node}
 use Rattle.file_tree.specs.Walks.{first_user_record}
-use Rattle.state_model.specs.declared.geometry.Geometry.{Geometry}
-use Rattle.state_model.specs.declared.stream.Extents.{Extents}
-use Rattle.state_model.specs.declared.stream.Stream.{Stream}
-use Rattle.state_model.specs.Files.{has_type}
-use Rattle.state_model.specs.Loads.{table_in, has_fitting_pairs}
-use Rattle.state_model.specs.Streams.{attributes_of, stream_of, block_at}
-use Rattle.volume_model.specs.Volumes.{Volume, file_in, file_stream, table_file, mirror_file, bitmap_file, cluster_bits}
-use Rattle.volume_model.specs.Owners.{uses}
-use Rattle.stream_laws.specs.Owners.{stream_kind}
-use Rattle.stream_laws.specs.Replacing.{FileEdit, with_edits}
-use Rattle.stream_laws.specs.Sharing.{StreamKey, stream_at, runs_in}
-use Rattle.stream_laws.proofs.Editing.{other_file}
-use Rattle.tree_laws.proofs.Ascending.{all_by}
-use Rattle.tree_laws.proofs.Naming.{file_elsewhere}
+use Rattle.change_steps.specs.state_model.declared.geometry.Geometry.{Geometry}
+use Rattle.change_steps.specs.state_model.declared.stream.Extents.{Extents}
+use Rattle.change_steps.specs.state_model.declared.stream.Stream.{Stream}
+use Rattle.change_steps.specs.state_model.Files.{has_type}
+use Rattle.change_steps.specs.state_model.Loads.{table_in, has_fitting_pairs}
+use Rattle.change_steps.specs.state_model.Streams.{attributes_of, stream_of, block_at}
+use Rattle.change_steps.specs.volume_model.Volumes.{Volume, file_in, file_stream, table_file, mirror_file, bitmap_file, cluster_bits}
+use Rattle.change_steps.specs.volume_model.Owners.{uses}
+use Rattle.change_steps.specs.stream_laws.Owners.{stream_kind}
+use Rattle.change_steps.specs.stream_laws.Replacing.{FileEdit, with_edits}
+use Rattle.change_steps.specs.stream_laws.Sharing.{StreamKey, stream_at, runs_in}
+use Rattle.change_steps.proofs.stream_laws.Editing.{other_file}
+use Rattle.change_steps.proofs.tree_laws.Ascending.{all_by}
+use Rattle.change_steps.proofs.tree_laws.Naming.{file_elsewhere}
 use Rattle.tree_model.specs.declared.script.Op.{Op}
-use Rattle.plan_owners.specs.States.{Stands}
+use Rattle.change_steps.specs.plan_owners.States.{Stands}
 use Rattle.plan_bodies.specs.Bodies.{NewBody, AreBodies, content_with}
-use Rattle.plan_model.specs.Drafts.{FollowsOwners}
-use Rattle.plan_model.specs.Edits.{IsOwnedIn}
-use Rattle.plan_model.specs.Informed.{with_record}
-use Rattle.record_streams.specs.Placing.{placed_record}
-use Rattle.plan_growth.specs.Streams.{IsOwnStream, IsWritten, marks_streams}
-use Rattle.plan_growth.proofs.Placed.{same_or_other, some_attributes, placed_types, placed_all, other_stream}
-use Rattle.plan_growth.proofs.Written.{Reads, all_read, placed_reads, written_types, written_stream}
-use Rattle.plan_values.proofs.Valued.{old_pairs}
-use Rattle.step_model.specs.Contents.{same_key, is_among, HasGrown, is_touched, touched_streams, MayDiffer, IsLeft}
-use Rattle.step_model.specs.Placing.{Growth, runs_after}
-use Rattle.step_model.specs.Used.{is_in_record}
-use Rattle.step_model.specs.Streams.{data_of}
-use Rattle.step_model.proofs.Leaving.{contents_left}
-use Rattle.data_plan.specs.Changes.{data_in, growth_of}
+use Rattle.change_steps.specs.plan_model.Drafts.{FollowsOwners}
+use Rattle.change_steps.specs.plan_model.Edits.{IsOwnedIn}
+use Rattle.change_steps.specs.plan_model.Informed.{with_record}
+use Rattle.change_steps.specs.record_streams.Placing.{placed_record}
+use Rattle.change_steps.specs.plan_growth.Streams.{IsOwnStream, IsWritten, marks_streams}
+use Rattle.change_steps.proofs.plan_growth.Placed.{same_or_other, some_attributes, placed_types, placed_all, other_stream}
+use Rattle.change_steps.proofs.plan_growth.Written.{Reads, all_read, placed_reads, written_types, written_stream}
+use Rattle.change_steps.proofs.plan_values.Valued.{old_pairs}
+use Rattle.change_steps.specs.step_model.Contents.{same_key, is_among, HasGrown, is_touched, touched_streams, MayDiffer, IsLeft}
+use Rattle.change_steps.specs.step_model.Placing.{Growth, runs_after}
+use Rattle.change_steps.specs.step_model.Used.{is_in_record}
+use Rattle.change_steps.specs.step_model.Streams.{data_of}
+use Rattle.change_steps.proofs.step_model.Leaving.{contents_left}
+use Rattle.change_steps.specs.data_plan.Changes.{data_in, growth_of}
 use Rattle.written_values.proofs.Growths.{growth_is, IsOf}
 
 -- ---- other files

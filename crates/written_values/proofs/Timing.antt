@@ -6,61 +6,61 @@ use Rattle.disk_model.specs.Sectors.{overlap}
 use Rattle.disk_model.specs.Content.{Content, HasSizes as HasBlockSizes}
 use Rattle.record_model.specs.Constants.{data_type, standard_information}
 use Rattle.record_model.specs.Records.{Record}
-use Rattle.record_writer.specs.NormalLaws.{FitsByRoom}
+use Rattle.change_steps.specs.record_writer.NormalLaws.{FitsByRoom}
 use Rattle.file_tree.specs.declared.node.Node.{Node}
-use Rattle.state_model.specs.declared.geometry.Geometry.{Geometry}
-use Rattle.state_model.specs.declared.stream.Stream.{Stream}
-use Rattle.state_model.specs.declared.stream.Stream.TheVariants.{Placed}
-use Rattle.state_model.specs.Files.{has_type, info_of}
-use Rattle.state_model.specs.Loads.{extents_or}
-use Rattle.state_model.specs.Streams.{stream_of}
-use Rattle.volume_model.specs.Volumes.{Volume, file_stream, bytes_or, mirror_file, cluster_bits}
-use Rattle.volume_model.specs.Owners.{uses}
-use Rattle.volume_state.specs.Trees.{tree_of}
-use Rattle.stream_laws.specs.Sharing.{stream_at, runs_in}
+use Rattle.change_steps.specs.state_model.declared.geometry.Geometry.{Geometry}
+use Rattle.change_steps.specs.state_model.declared.stream.Stream.{Stream}
+use Rattle.change_steps.specs.state_model.declared.stream.Stream.TheVariants.{Placed}
+use Rattle.change_steps.specs.state_model.Files.{has_type, info_of}
+use Rattle.change_steps.specs.state_model.Loads.{extents_or}
+use Rattle.change_steps.specs.state_model.Streams.{stream_of}
+use Rattle.change_steps.specs.volume_model.Volumes.{Volume, file_stream, bytes_or, mirror_file, cluster_bits}
+use Rattle.change_steps.specs.volume_model.Owners.{uses}
+use Rattle.change_steps.specs.volume_state.Trees.{tree_of}
+use Rattle.change_steps.specs.stream_laws.Sharing.{stream_at, runs_in}
 use Rattle.tree_model.specs.declared.script.Op.{Op}
 use Rattle.tree_model.specs.Needs.{needed}
 use Rattle.tree_model.specs.Effects.{HasChanged}
-use Rattle.plan_owners.specs.States.{Stands}
+use Rattle.change_steps.specs.plan_owners.States.{Stands}
 use Rattle.plan_bodies.specs.Bodies.{NewBody}
 use Rattle.plan_bodies.proofs.Putting.{sized_with}
-use Rattle.plan_draft.specs.declared.touched.Touched.{Touched}
-use Rattle.plan_draft.specs.Touching.{bodies_of}
-use Rattle.plan_draft.specs.Drafts.{drafted}
-use Rattle.plan_model.specs.Attributes.{RewritesValues}
-use Rattle.plan_model.specs.Drafts.{FollowsOwners}
-use Rattle.plan_model.specs.Informed.{is_info, with_info, with_record, InfoDiffers}
-use Rattle.plan_model.proofs.Drafting.{per_is}
-use Rattle.plan_model.proofs.Rewriting.{same_runs, same_stream}
-use Rattle.record_streams.specs.Fitting.{FitsButRoom}
-use Rattle.record_times.specs.Times.{timed_info, timed_record}
-use Rattle.record_times.specs.Laws.{TimesAreSet}
-use Rattle.draft_bits.specs.Effects.{IsKept}
-use Rattle.draft_records.specs.Records.{written_record, written_bytes, fits_room}
-use Rattle.draft_records.proofs.Spelled.{spelled_but_room}
-use Rattle.draft_records.proofs.Written.{fits_written, room_full}
-use Rattle.resized_streams.specs.declared.resized.Resized.{Resized}
-use Rattle.plan_growth.specs.Trees.{with_data}
-use Rattle.plan_values.specs.Values.{IsOwnFile, WritesValues}
-use Rattle.plan_values.proofs.Valued.{data_spared, values_written}
-use Rattle.plan_edits.specs.Edits.{mirror_key}
-use Rattle.plan_edits.specs.Moves.{EditsDraft}
-use Rattle.plan_edits.specs.Records.{PutsRecordOf}
-use Rattle.plan_informed.proofs.Informed.{values_edit}
-use Rattle.plan_changes.specs.Changes.{IsDataAfter, Stamps}
-use Rattle.plan_changes.specs.Files.{IsChangeable, own_data, Shows, with_own, Follows}
-use Rattle.plan_changes.specs.Going.{GoesOnIn, StandsAs}
-use Rattle.plan_changes.specs.Nodes.{NodeBecomes}
-use Rattle.plan_changes.proofs.Becoming.{nodes_are}
-use Rattle.plan_changes.proofs.Changing.{changes_done}
-use Rattle.plan_changes.proofs.Going.{files_going}
-use Rattle.plan_changes.proofs.Showing.{files_are}
-use Rattle.step_model.specs.Contents.{MayDiffer, IsLeft}
-use Rattle.step_model.specs.Used.{is_in_record}
-use Rattle.data_plan.specs.Changes.{data_in, growth_of, IsTaken}
-use Rattle.file_puts.specs.declared.streams.VolumeStreams.{VolumeStreams}
-use Rattle.file_puts.specs.Puts.{PutsTimes}
-use Rattle.file_puts.specs.Written.{AreStreamsOf, HasWritten}
+use Rattle.change_steps.specs.plan_draft.declared.touched.Touched.{Touched}
+use Rattle.change_steps.specs.plan_draft.Touching.{bodies_of}
+use Rattle.change_steps.specs.plan_draft.Drafts.{drafted}
+use Rattle.change_steps.specs.plan_model.Attributes.{RewritesValues}
+use Rattle.change_steps.specs.plan_model.Drafts.{FollowsOwners}
+use Rattle.change_steps.specs.plan_model.Informed.{is_info, with_info, with_record, InfoDiffers}
+use Rattle.change_steps.proofs.plan_model.Drafting.{per_is}
+use Rattle.change_steps.proofs.plan_model.Rewriting.{same_runs, same_stream}
+use Rattle.change_steps.specs.record_streams.Fitting.{FitsButRoom}
+use Rattle.change_steps.specs.record_times.Times.{timed_info, timed_record}
+use Rattle.change_steps.specs.record_times.Laws.{TimesAreSet}
+use Rattle.change_steps.specs.draft_bits.Effects.{IsKept}
+use Rattle.change_steps.specs.draft_records.Records.{written_record, written_bytes, fits_room}
+use Rattle.change_steps.proofs.draft_records.Spelled.{spelled_but_room}
+use Rattle.change_steps.proofs.draft_records.Written.{fits_written, room_full}
+use Rattle.change_steps.specs.resized_streams.declared.resized.Resized.{Resized}
+use Rattle.change_steps.specs.plan_growth.Trees.{with_data}
+use Rattle.change_steps.specs.plan_values.Values.{IsOwnFile, WritesValues}
+use Rattle.change_steps.proofs.plan_values.Valued.{data_spared, values_written}
+use Rattle.change_steps.specs.plan_edits.Edits.{mirror_key}
+use Rattle.change_steps.specs.plan_edits.Moves.{EditsDraft}
+use Rattle.change_steps.specs.plan_edits.Records.{PutsRecordOf}
+use Rattle.change_steps.proofs.plan_informed.Informed.{values_edit}
+use Rattle.change_steps.specs.plan_changes.Changes.{IsDataAfter, Stamps}
+use Rattle.change_steps.specs.plan_changes.Files.{IsChangeable, own_data, Shows, with_own, Follows}
+use Rattle.change_steps.specs.plan_changes.Going.{GoesOnIn, StandsAs}
+use Rattle.change_steps.specs.plan_changes.Nodes.{NodeBecomes}
+use Rattle.change_steps.proofs.plan_changes.Becoming.{nodes_are}
+use Rattle.change_steps.proofs.plan_changes.Changing.{changes_done}
+use Rattle.change_steps.proofs.plan_changes.Going.{files_going}
+use Rattle.change_steps.proofs.plan_changes.Showing.{files_are}
+use Rattle.change_steps.specs.step_model.Contents.{MayDiffer, IsLeft}
+use Rattle.change_steps.specs.step_model.Used.{is_in_record}
+use Rattle.change_steps.specs.data_plan.Changes.{data_in, growth_of, IsTaken}
+use Rattle.change_steps.specs.file_puts.declared.streams.VolumeStreams.{VolumeStreams}
+use Rattle.change_steps.specs.file_puts.Puts.{PutsTimes}
+use Rattle.change_steps.specs.file_puts.Written.{AreStreamsOf, HasWritten}
 use Rattle.written_values.proofs.Owning.{IsOwned, is_owned}
 use Rattle.written_values.proofs.Becoming.{stamped}
 use Rattle.written_values.proofs.Joining.{nothing_put, Reaches, goes_behind, puts_record}

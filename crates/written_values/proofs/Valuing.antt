@@ -10,60 +10,60 @@ use Rattle.record_model.specs.declared.runs.Run.{Run}
 use Rattle.record_model.specs.Constants.{data_type, standard_information}
 use Rattle.record_model.specs.Records.{Record}
 use Rattle.file_tree.specs.declared.node.Node.{Node}
-use Rattle.state_model.specs.declared.geometry.Geometry.{Geometry}
-use Rattle.state_model.specs.declared.stream.Stream.{Stream}
-use Rattle.state_model.specs.declared.stream.Stream.TheVariants.{Held}
-use Rattle.state_model.specs.Files.{info_of}
-use Rattle.state_model.specs.Streams.{is_attribute_of, attributes_of, stream_of}
-use Rattle.volume_model.specs.Volumes.{Volume, bytes_or, size_or, cluster_bits}
-use Rattle.volume_model.specs.Nodes.{valid_or, clusters_or, data_flags, first_flags}
-use Rattle.volume_model.specs.Owners.{uses}
-use Rattle.volume_state.specs.Trees.{tree_of}
-use Rattle.stream_laws.specs.Sharing.{runs_in}
-use Rattle.stream_laws.proofs.Sharing.{attribute_kind}
+use Rattle.change_steps.specs.state_model.declared.geometry.Geometry.{Geometry}
+use Rattle.change_steps.specs.state_model.declared.stream.Stream.{Stream}
+use Rattle.change_steps.specs.state_model.declared.stream.Stream.TheVariants.{Held}
+use Rattle.change_steps.specs.state_model.Files.{info_of}
+use Rattle.change_steps.specs.state_model.Streams.{is_attribute_of, attributes_of, stream_of}
+use Rattle.change_steps.specs.volume_model.Volumes.{Volume, bytes_or, size_or, cluster_bits}
+use Rattle.change_steps.specs.volume_model.Nodes.{valid_or, clusters_or, data_flags, first_flags}
+use Rattle.change_steps.specs.volume_model.Owners.{uses}
+use Rattle.change_steps.specs.volume_state.Trees.{tree_of}
+use Rattle.change_steps.specs.stream_laws.Sharing.{runs_in}
+use Rattle.change_steps.proofs.stream_laws.Sharing.{attribute_kind}
 use Rattle.tree_model.specs.declared.script.Op.{Op}
 use Rattle.tree_model.specs.Needs.{needed}
 use Rattle.tree_model.specs.Effects.{bytes_after, HasChanged}
-use Rattle.plan_owners.specs.States.{Stands}
+use Rattle.change_steps.specs.plan_owners.States.{Stands}
 use Rattle.plan_bodies.specs.Bodies.{NewBody}
 use Rattle.plan_bodies.proofs.Putting.{sized_with}
-use Rattle.plan_draft.specs.declared.touched.Touched.{Touched}
-use Rattle.plan_draft.specs.Touching.{bodies_of}
-use Rattle.plan_draft.specs.Drafts.{drafted}
-use Rattle.plan_model.specs.Attributes.{RewritesValues, SparesAll}
-use Rattle.plan_model.specs.Drafts.{FollowsOwners}
-use Rattle.plan_model.specs.Informed.{is_info, with_info, with_record}
-use Rattle.plan_model.proofs.Drafting.{per_is}
-use Rattle.plan_model.proofs.Rewriting.{same_attributes, same_info, same_runs, same_stream, same_types}
-use Rattle.record_streams.specs.Fitting.{FitsButRoom}
-use Rattle.record_values.proofs.Valued.{fits_valued}
-use Rattle.record_times.specs.Times.{timed_info, timed_record}
-use Rattle.record_times.specs.Laws.{TimesAreSet}
-use Rattle.draft_records.specs.Records.{written_record, written_bytes}
-use Rattle.plan_values.specs.Values.{is_data, is_info_or_data, WritesValues}
-use Rattle.plan_values.specs.Trees.{FileFollows}
-use Rattle.plan_values.proofs.Valued.{data_spared, values_written}
-use Rattle.plan_edits.specs.Moves.{EditsDraft}
-use Rattle.plan_edits.specs.Records.{PutsRecordOf}
-use Rattle.plan_informed.specs.Valued.{with_value}
-use Rattle.plan_informed.proofs.Informed.{values_edit, info_wider}
-use Rattle.plan_informed.proofs.Valuing.{value_rewrites}
-use Rattle.plan_changes.specs.Bytes.{HasSizes}
-use Rattle.plan_changes.specs.Changes.{IsDataAfter, Stamps}
-use Rattle.plan_changes.specs.Files.{IsChangeable, own_data, Shows, with_own, Follows}
-use Rattle.plan_changes.specs.Going.{StandsAs}
-use Rattle.plan_changes.proofs.Changing.{changes_done}
-use Rattle.plan_changes.proofs.Going.{files_going}
-use Rattle.plan_changes.proofs.Showing.{files_are}
-use Rattle.step_model.specs.Used.{is_in_record}
-use Rattle.step_model.specs.Contents.{MayDiffer, IsLeft}
-use Rattle.used_laws.proofs.Beside.{used}
-use Rattle.data_plan.specs.declared.change.DataChange.TheVariants as change
-use Rattle.data_plan.specs.Changes.{data_in, growth_of, BeginsAtZero}
-use Rattle.data_plan.proofs.Taking.{there_is, as_value_bytes}
-use Rattle.file_puts.specs.declared.streams.VolumeStreams.{VolumeStreams}
-use Rattle.file_puts.specs.Puts.{PutsFileRecord}
-use Rattle.file_puts.specs.Written.{WritesFile, HasWritten}
+use Rattle.change_steps.specs.plan_draft.declared.touched.Touched.{Touched}
+use Rattle.change_steps.specs.plan_draft.Touching.{bodies_of}
+use Rattle.change_steps.specs.plan_draft.Drafts.{drafted}
+use Rattle.change_steps.specs.plan_model.Attributes.{RewritesValues, SparesAll}
+use Rattle.change_steps.specs.plan_model.Drafts.{FollowsOwners}
+use Rattle.change_steps.specs.plan_model.Informed.{is_info, with_info, with_record}
+use Rattle.change_steps.proofs.plan_model.Drafting.{per_is}
+use Rattle.change_steps.proofs.plan_model.Rewriting.{same_attributes, same_info, same_runs, same_stream, same_types}
+use Rattle.change_steps.specs.record_streams.Fitting.{FitsButRoom}
+use Rattle.change_steps.proofs.record_values.Valued.{fits_valued}
+use Rattle.change_steps.specs.record_times.Times.{timed_info, timed_record}
+use Rattle.change_steps.specs.record_times.Laws.{TimesAreSet}
+use Rattle.change_steps.specs.draft_records.Records.{written_record, written_bytes}
+use Rattle.change_steps.specs.plan_values.Values.{is_data, is_info_or_data, WritesValues}
+use Rattle.change_steps.specs.plan_values.Trees.{FileFollows}
+use Rattle.change_steps.proofs.plan_values.Valued.{data_spared, values_written}
+use Rattle.change_steps.specs.plan_edits.Moves.{EditsDraft}
+use Rattle.change_steps.specs.plan_edits.Records.{PutsRecordOf}
+use Rattle.change_steps.specs.plan_informed.Valued.{with_value}
+use Rattle.change_steps.proofs.plan_informed.Informed.{values_edit, info_wider}
+use Rattle.change_steps.proofs.plan_informed.Valuing.{value_rewrites}
+use Rattle.change_steps.specs.plan_changes.Bytes.{HasSizes}
+use Rattle.change_steps.specs.plan_changes.Changes.{IsDataAfter, Stamps}
+use Rattle.change_steps.specs.plan_changes.Files.{IsChangeable, own_data, Shows, with_own, Follows}
+use Rattle.change_steps.specs.plan_changes.Going.{StandsAs}
+use Rattle.change_steps.proofs.plan_changes.Changing.{changes_done}
+use Rattle.change_steps.proofs.plan_changes.Going.{files_going}
+use Rattle.change_steps.proofs.plan_changes.Showing.{files_are}
+use Rattle.change_steps.specs.step_model.Used.{is_in_record}
+use Rattle.change_steps.specs.step_model.Contents.{MayDiffer, IsLeft}
+use Rattle.change_steps.proofs.used_laws.Beside.{used}
+use Rattle.change_steps.specs.data_plan.declared.change.DataChange.TheVariants as change
+use Rattle.change_steps.specs.data_plan.Changes.{data_in, growth_of, BeginsAtZero}
+use Rattle.change_steps.proofs.data_plan.Taking.{there_is, as_value_bytes}
+use Rattle.change_steps.specs.file_puts.declared.streams.VolumeStreams.{VolumeStreams}
+use Rattle.change_steps.specs.file_puts.Puts.{PutsFileRecord}
+use Rattle.change_steps.specs.file_puts.Written.{WritesFile, HasWritten}
 use Rattle.written_values.specs.Laws.{ValuesAreDone}
 use Rattle.written_values.proofs.Owning.{IsOwned, is_owned}
 use Rattle.written_values.proofs.Growths.{stays_none}

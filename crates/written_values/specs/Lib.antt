@@ -1,1 +1,25 @@
+pub use Rattle.change_steps.specs as change_steps
+pub use Rattle.change_steps.specs.change_lookup
+pub use Rattle.change_steps.specs.data_plan
+pub use Rattle.change_steps.specs.draft_bits
+pub use Rattle.change_steps.specs.draft_records
+pub use Rattle.change_steps.specs.draft_resized
+pub use Rattle.change_steps.specs.draft_runs
+pub use Rattle.change_steps.specs.draft_streams
+pub use Rattle.change_steps.specs.file_puts
+pub use Rattle.change_steps.specs.plan_changes
+pub use Rattle.change_steps.specs.plan_edits
+pub use Rattle.change_steps.specs.plan_model
+pub use Rattle.change_steps.specs.plan_owners
+pub use Rattle.change_steps.specs.plan_values
+pub use Rattle.change_steps.specs.record_streams
+pub use Rattle.change_steps.specs.record_times
+pub use Rattle.change_steps.specs.record_values
+pub use Rattle.change_steps.specs.record_writer
+pub use Rattle.change_steps.specs.resized_streams
+pub use Rattle.change_steps.specs.step_model
+pub use Rattle.change_steps.specs.stream_laws
+pub use Rattle.change_steps.specs.stream_runs
+pub use Rattle.change_steps.specs.volume_model
+pub use Rattle.change_steps.specs.volume_state
 pub mod Laws

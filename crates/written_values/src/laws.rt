@@ -1,7 +1,7 @@
 //! The laws of these definitions.
 ghost use Rattle.written_values.specs.Laws.{CutsAreDone, ShorterAreDone, ValuesAreDone};
 
-use record_times::times_are_set;
+use change_steps::times_are_set;
 
 /// Law: where a draft has put the value of data that stays in its record, with the times, it stands
 /// for a state, and the operation has changed the tree and left the content as a step says.

@@ -1,7 +1,7 @@
 use Rattle.std.proofs.Common.{rules, ◌∙◌}
 use Rattle.tree_lookup.proofs.Ways.{directory_known}
 use Rattle.change_lookup.proofs.Coming.{front_names, kind_known, place_found_known}
-use Rattle.tree_model.specs.Refusals.{parent_path}
+use Rattle.tree_lookup.specs.tree_model.Refusals.{parent_path}
 use Rattle.change_lookup.proofs.places.place_found.Goals as goal
 
 pub reached_directory-requires : goal.reached_directory-requires

@@ -1,5 +1,5 @@
 use Rattle.std.proofs.lemmas.Result.{err_from_is_err_and}
-use Rattle.volume_map.specs.Maps.{volume_in}
+use Rattle.found_files.specs.volume_map.Maps.{volume_in}
 use Rattle.change_plan.proofs.Leading.{found_plans, found_known, failed_plans, failed_known}
 use Rattle.change_plan.proofs.planning.plan_change.Goals as goal
 

@@ -1,4 +1,4 @@
-use Rattle.change_steps.specs.Changes.{change_reply}
+use Rattle.found_files.specs.change_steps.Changes.{change_reply}
 use Rattle.change_plan.proofs.Ending.{answer_sound, kept_on}
 use Rattle.change_plan.proofs.Leading.{refused_plans, stays_plans, file_plans, file_known}
 use Rattle.change_plan.proofs.planning.planned.Goals as goal

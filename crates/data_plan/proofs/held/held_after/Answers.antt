@@ -1,9 +1,9 @@
 use Rattle.std.proofs.Common.{◌≡◌, ℕ, true, [], ◌∷◌, ap, ◌∙◌, arith, rules}
 use Rattle.std.proofs.lemmas.Bool.{both_ways}
 use Rattle.std.proofs.lemmas.Result.{err_from_is_err_and}
-use Rattle.record_model.specs.Constants.{data_type}
-use Rattle.tree_model.specs.Needs.{shrinks}
-use Rattle.step_model.specs.Used.{used_after, own_attr, value_attr}
+use Rattle.used_laws.specs.record_model.Constants.{data_type}
+use Rattle.used_laws.specs.tree_model.Needs.{shrinks}
+use Rattle.used_laws.specs.step_model.Used.{used_after, own_attr, value_attr}
 use Rattle.data_plan.specs.Changes.{MustLeave}
 use Rattle.data_plan.proofs.Cases.{memory_err}
 use Rattle.data_plan.proofs.Taking.{kept_after}

@@ -1,9 +1,9 @@
 use Rattle.std.proofs.Common.{[], ap, ◌∙◌, subst}
 use Rattle.std.proofs.lemmas.Result.{err_from_is_err_and}
-use Rattle.record_model.specs.Constants.{data_type}
-use Rattle.state_model.specs.declared.stream.Extents.{Extents}
-use Rattle.tree_model.specs.Needs.{clusters_for}
-use Rattle.resized_streams.specs.Resizing.{unplaced, IsGrown}
+use Rattle.used_laws.specs.record_model.Constants.{data_type}
+use Rattle.used_laws.specs.state_model.declared.stream.Extents.{Extents}
+use Rattle.used_laws.specs.tree_model.Needs.{clusters_for}
+use Rattle.used_laws.specs.resized_streams.Resizing.{unplaced, IsGrown}
 use Rattle.data_plan.specs.declared.change.DataChange.TheVariants as change
 use Rattle.data_plan.specs.Changes.{data_in, growth_of}
 use Rattle.data_plan.proofs.Taking.{held_of, leaving, grown_ok, grown_err}

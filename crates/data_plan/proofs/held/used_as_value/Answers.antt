@@ -1,5 +1,5 @@
 use Rattle.std.proofs.Common.{ℕ, ◌+◌, ◌*◌, ◌/◌, ap, ◌∙◌}
-use Rattle.record_model.specs.Records.{Record, used_of}
+use Rattle.used_laws.specs.record_model.Records.{Record, used_of}
 use Rattle.data_plan.proofs.Taking.{as_value_bytes}
 use Rattle.data_plan.proofs.held.used_as_value.Goals as goal
 

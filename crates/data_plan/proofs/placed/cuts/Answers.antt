@@ -1,6 +1,6 @@
 use Rattle.std.proofs.Common.{sym, subst}
 use Rattle.std.proofs.lemmas.Result.{err_from_is_err_and}
-use Rattle.resized_streams.specs.declared.resized.Resized.{Resized}
+use Rattle.used_laws.specs.resized_streams.declared.resized.Resized.{Resized}
 use Rattle.data_plan.specs.declared.change.DataChange.TheVariants as change
 use Rattle.data_plan.specs.Changes.{DataAfter}
 use Rattle.std.proofs.Common.{Ok}

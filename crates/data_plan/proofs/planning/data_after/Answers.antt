@@ -1,7 +1,7 @@
 use Rattle.std.proofs.Common.{[], sym, ap, ◌∙◌}
 use Rattle.std.proofs.lemmas.Result.{err_from_is_err_and}
-use Rattle.record_model.specs.Constants.{data_type}
-use Rattle.state_model.specs.Streams.{stream_of}
+use Rattle.used_laws.specs.record_model.Constants.{data_type}
+use Rattle.used_laws.specs.state_model.Streams.{stream_of}
 use Rattle.data_plan.proofs.Cases.{memory_err}
 use Rattle.data_plan.proofs.Taking.{some_data}
 use Rattle.data_plan.proofs.planning.data_after.Goals as goal

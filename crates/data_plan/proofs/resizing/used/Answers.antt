@@ -1,5 +1,5 @@
 use Rattle.std.proofs.Common.{arith}
-use Rattle.record_streams.proofs.Kept.{but_room_fits}
+use Rattle.used_laws.proofs.record_streams.Kept.{but_room_fits}
 use Rattle.used_laws.proofs.Lengths.{written_used}
 use Rattle.data_plan.proofs.resizing.used.Goals as goal
 

@@ -1,7 +1,7 @@
 use Rattle.std.proofs.Common.{Some, sym, ap, ◌∙◌, subst}
 use Rattle.state_model.specs.declared.stream.Stream.{Stream}
 use Rattle.state_model.specs.declared.stream.Stream.TheVariants.{Held}
-use Rattle.step_model.specs.Streams.{wanted_size, used_key}
+use Rattle.data_plan.specs.step_model.Streams.{wanted_size, used_key}
 use Rattle.directory_growth.specs.Bitmap.{BitsAfter}
 use Rattle.directory_growth.proofs.bitmap.bits_after.Goals as goal
 

@@ -3,7 +3,7 @@ use Rattle.std.proofs.lemmas.Result.{err_from_is_err_and}
 use Rattle.record_model.specs.Records.{Record, used_of}
 use Rattle.state_model.specs.declared.stream.Stream.TheVariants.{Held}
 use Rattle.tree_model.specs.Needs.{clusters_for}
-use Rattle.step_model.specs.Streams.{wanted_size, used_key}
+use Rattle.data_plan.specs.step_model.Streams.{wanted_size, used_key}
 use Rattle.directory_growth.specs.declared.change.BitsChange.TheVariants as change
 use Rattle.directory_growth.specs.Bitmap.{MustLeave}
 use Rattle.directory_growth.proofs.Coming.{at_size, valued_used, kept_ok, memory_err}

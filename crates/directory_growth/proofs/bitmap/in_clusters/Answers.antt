@@ -2,7 +2,7 @@ use Rattle.std.proofs.Common.{[], ◌∷◌, sym, ap, ◌∙◌}
 use Rattle.record_model.specs.Constants.{bitmap_type}
 use Rattle.record_model.specs.Records.{used_of}
 use Rattle.state_model.specs.declared.stream.Extents.{Extents}
-use Rattle.step_model.specs.Plans.{full_row}
+use Rattle.data_plan.specs.step_model.Plans.{full_row}
 use Rattle.directory_growth.specs.Clusters.{counted_record}
 use Rattle.directory_growth.proofs.bitmap.in_clusters.Goals as goal
 

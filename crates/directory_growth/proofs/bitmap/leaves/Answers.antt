@@ -2,7 +2,7 @@ use Rattle.std.proofs.Common.{◌≡◌, max, length, Some, refl, sym, subst, ar
 use Rattle.std.proofs.lemmas.Result.{err_from_is_err_and}
 use Rattle.record_model.specs.Constants.{bitmap_type}
 use Rattle.state_model.specs.declared.stream.Extents.{Extents}
-use Rattle.step_model.specs.Streams.{placed_among}
+use Rattle.data_plan.specs.step_model.Streams.{placed_among}
 use Rattle.directory_growth.proofs.Placing.{wanted_in}
 use Rattle.state_model.specs.declared.stream.Stream.TheVariants.{Held}
 use Rattle.tree_model.specs.Needs.{clusters_for}

@@ -1,6 +1,6 @@
 use Rattle.std.proofs.Common.{ap, arith}
 use Rattle.state_model.specs.Loads.{total_clusters}
-use Rattle.record_streams.proofs.Spelled.{total_few}
+use Rattle.data_plan.proofs.record_streams.Spelled.{total_few}
 use Rattle.directory_growth.proofs.clusters.lacking.Goals as goal
 
 pub total_clusters-has-requires : goal.total_clusters-has-requires

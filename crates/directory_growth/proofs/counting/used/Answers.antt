@@ -1,6 +1,6 @@
 use Rattle.std.proofs.Common.{arith}
-use Rattle.record_streams.proofs.Kept.{but_room_fits}
-use Rattle.used_laws.proofs.Lengths.{written_used}
+use Rattle.data_plan.proofs.record_streams.Kept.{but_room_fits}
+use Rattle.data_plan.proofs.used_laws.Lengths.{written_used}
 use Rattle.directory_growth.proofs.counting.used.Goals as goal
 
 pub used-requires : goal.used-requires

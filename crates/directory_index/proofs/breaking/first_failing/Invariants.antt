@@ -1,6 +1,6 @@
 use Rattle.std.proofs.Common.{◌≡◌, length}
 use Rattle.std.specs.Prelude.{IfSome}
-use Rattle.block_view.specs.Views.{KeepsView}
+use Rattle.index_tree.specs.block_view.Views.{KeepsView}
 use Rattle.volume_model.specs.Indexes.{keeps_index}
 use Rattle.directory_index.specs.Loaded.{volume_with}
 use Rattle.directory_index.proofs.Numbers.{FailsFrom}

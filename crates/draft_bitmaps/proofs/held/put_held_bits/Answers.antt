@@ -1,5 +1,5 @@
 use Rattle.std.proofs.Common.{rules, [], sym, ap, ◌∙◌}
-use Rattle.draft_records.specs.Records.{fits_room}
+use Rattle.draft_resized.specs.draft_records.Records.{fits_room}
 use Rattle.draft_bitmaps.specs.declared.bitmap.Bitmap.{Bitmap}
 use Rattle.draft_bitmaps.proofs.Room.{same_room}
 use Rattle.draft_bitmaps.proofs.held.put_held_bits.Goals as goal

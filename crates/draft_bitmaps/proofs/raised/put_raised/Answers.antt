@@ -1,5 +1,5 @@
 use Rattle.record_model.specs.Records.{record_spelling}
-use Rattle.draft_records.specs.Records.{written_record, touch_record}
+use Rattle.draft_resized.specs.draft_records.Records.{written_record, touch_record}
 use Rattle.draft_resized.proofs.Fronts.{put_behind}
 use Rattle.draft_bitmaps.specs.Bitmaps.{PutsPast}
 use Rattle.draft_bitmaps.proofs.raised.put_raised.Goals as goal

@@ -1,12 +1,12 @@
 use Rattle.std.proofs.Common.{◌≡◌, ℕ, ◌+◌, ◌≤◌, length, refl, sym, ap, subst, ◌∙◌}
 use Rattle.std.proofs.lemmas.Result.{err_from_is_err_and}
 use Rattle.record_model.specs.Pairs.{cluster_limit}
-use Rattle.space_model.specs.Choosing.{chosen}
-use Rattle.stream_runs.specs.Runs.{last_cluster}
+use Rattle.draft_bitmaps.specs.space_model.Choosing.{chosen}
+use Rattle.draft_bitmaps.specs.stream_runs.Runs.{last_cluster}
 use Rattle.draft_bitmaps.specs.declared.bitmap.Bitmap.{Bitmap}
 use Rattle.draft_bitmaps.specs.Bitmaps.{bit_count}
 use Rattle.draft_growth.specs.Growing.{table_clusters, table_records, record_count, numbers_bytes, size_in, standing, more_for, grown_record}
-use Rattle.draft_records.specs.Records.{fits_room}
+use Rattle.draft_numbers.specs.draft_records.Records.{fits_room}
 use Rattle.draft_growth.proofs.Chosen.{chosen_inside}
 use Rattle.draft_growth.proofs.Fulls.{other_space, full_told, full_never, record_grown}
 use Rattle.draft_growth.proofs.Space.{behind, bitmap_now, table_taken, records_ok, records_err, second_ok, second_err, other_fault}

@@ -1,6 +1,6 @@
 use Rattle.std.proofs.Common.{◌∙◌}
 use Rattle.std.proofs.lemmas.Result.{err_from_is_err_and}
-use Rattle.draft_records.specs.Records.{fits_room}
+use Rattle.draft_numbers.specs.draft_records.Records.{fits_room}
 use Rattle.draft_growth.proofs.Fulls.{never}
 use Rattle.draft_growth.proofs.Joining.{grown_put}
 use Rattle.draft_growth.proofs.growing.put_grown.Goals as goal

@@ -1,5 +1,5 @@
 use Rattle.std.proofs.lemmas.Result.{err_from_is_err_and}
-use Rattle.draft_records.specs.Records.{fits_room}
+use Rattle.draft_numbers.specs.draft_records.Records.{fits_room}
 use Rattle.draft_growth.proofs.Fulls.{fitted, told}
 use Rattle.draft_growth.proofs.growing.put_table.Goals as goal
 

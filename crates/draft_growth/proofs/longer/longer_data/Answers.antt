@@ -1,6 +1,6 @@
 use Rattle.std.proofs.Common.{ap}
-use Rattle.space_model.specs.Choosing.{chosen}
-use Rattle.stream_runs.specs.Runs.{last_cluster}
+use Rattle.draft_bitmaps.specs.space_model.Choosing.{chosen}
+use Rattle.draft_bitmaps.specs.stream_runs.Runs.{last_cluster}
 use Rattle.draft_growth.specs.Growing.{table_clusters}
 use Rattle.draft_growth.proofs.Lengths.{data_longer}
 use Rattle.draft_growth.proofs.longer.longer_data.Goals as goal

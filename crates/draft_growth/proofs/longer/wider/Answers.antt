@@ -1,6 +1,6 @@
 use Rattle.std.proofs.Common.{◌≡◌, not}
 use Rattle.std.specs.Prelude.{count_by}
-use Rattle.state_model.specs.declared.stream.Stream.TheVariants.{Placed}
+use Rattle.draft_bitmaps.specs.state_model.declared.stream.Stream.TheVariants.{Placed}
 use Rattle.draft_growth.specs.Growing.{wanted_for}
 use Rattle.draft_growth.proofs.Space.{spaced_as}
 use Rattle.draft_growth.proofs.longer.wider.Goals as goal

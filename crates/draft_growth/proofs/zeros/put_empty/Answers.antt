@@ -1,7 +1,7 @@
 use Rattle.std.proofs.Common.{length}
 use Rattle.disk_model.specs.declared.block.BlockKind.TheVariants.{FileRec}
-use Rattle.stream_map.proofs.Reading.{kind-block_at}
-use Rattle.draft_records.proofs.Steps.{kind_of_size}
+use Rattle.draft_bitmaps.proofs.stream_map.Reading.{kind-block_at}
+use Rattle.draft_numbers.proofs.draft_records.Steps.{kind_of_size}
 use Rattle.draft_growth.proofs.zeros.put_empty.Goals as goal
 
 pub put-requires : goal.put-requires

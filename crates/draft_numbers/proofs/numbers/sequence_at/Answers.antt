@@ -1,7 +1,7 @@
 use Rattle.std.proofs.Common.{rules, ◌≡◌, true, false, Option, None, sym, ◌∙◌}
 use Rattle.disk_model.specs.declared.block.Block.{Block}
 use Rattle.disk_model.specs.declared.block.BlockKind.TheVariants.{FileRec}
-use Rattle.stream_map.proofs.Reading.{kind-block_at}
+use Rattle.draft_records.proofs.stream_map.Reading.{kind-block_at}
 use Rattle.draft_records.specs.Records.{record_block, is_past}
 use Rattle.draft_numbers.proofs.Spares.{at_past, at_none}
 use Rattle.draft_numbers.proofs.numbers.sequence_at.Goals as goal

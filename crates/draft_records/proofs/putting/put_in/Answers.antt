@@ -1,6 +1,6 @@
 use Rattle.std.proofs.Common.{length}
-use Rattle.disk_model.specs.declared.block.BlockKind.TheVariants.{FileRec}
-use Rattle.stream_map.proofs.Reading.{kind-block_at}
+use Rattle.record_model.specs.disk_model.declared.block.BlockKind.TheVariants.{FileRec}
+use Rattle.resized_streams.proofs.stream_map.Reading.{kind-block_at}
 use Rattle.draft_records.proofs.Steps.{kind_of_size}
 use Rattle.draft_records.proofs.putting.put_in.Goals as goal
 

@@ -1,5 +1,5 @@
-use Rattle.disk_model.specs.declared.block.BlockKind.TheVariants.{FileRec}
-use Rattle.stream_map.proofs.Reading.{kind-block_at}
+use Rattle.record_model.specs.disk_model.declared.block.BlockKind.TheVariants.{FileRec}
+use Rattle.resized_streams.proofs.stream_map.Reading.{kind-block_at}
 use Rattle.draft_records.proofs.reading.file.Goals as goal
 
 pub read_in-requires : goal.read_in-requires

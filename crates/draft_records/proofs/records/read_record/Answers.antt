@@ -1,8 +1,8 @@
 use Rattle.std.proofs.Common.{ℕ, arith}
-use Rattle.disk_model.specs.Bytes.{AreBytes}
+use Rattle.record_model.specs.disk_model.Bytes.{AreBytes}
 use Rattle.record_model.proofs.Records.{read_is_table}
-use Rattle.record_writer.proofs.NormalRoom.{read_fits}
-use Rattle.record_streams.proofs.Read.{read_but_room}
+use Rattle.resized_streams.proofs.record_writer.NormalRoom.{read_fits}
+use Rattle.resized_streams.proofs.record_streams.Read.{read_but_room}
 use Rattle.draft_records.proofs.records.read_record.Goals as goal
 
 pub returns-in-Ok-clause-fits : goal.returns-in-Ok-clause-fits

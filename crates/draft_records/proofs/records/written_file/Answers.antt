@@ -1,7 +1,7 @@
 use Rattle.std.proofs.Common.{◌≡◌, ap, ◌∙◌, arith}
 use Rattle.std.specs.Prelude.{map}
 use Rattle.record_model.specs.Records.{Record, used_of}
-use Rattle.record_writer.specs.Normal.{normal}
+use Rattle.resized_streams.specs.record_writer.Normal.{normal}
 use Rattle.draft_records.specs.Records.{name_count}
 use Rattle.draft_records.proofs.Written.{few_names}
 use Rattle.draft_records.proofs.records.written_file.Goals as goal

@@ -1,5 +1,5 @@
 use Rattle.std.proofs.Common.{◌≡◌}
-use Rattle.draft_streams.specs.Parts.{touch_bytes, IsFrontOf}
+use Rattle.draft_runs.specs.draft_streams.Parts.{touch_bytes, IsFrontOf}
 use Rattle.draft_resized.specs.Resized.{PutsResized, PutsResizedFront}
 use Rattle.draft_resized.proofs.Fronts.{both_put, first_front, either_front, on_err}
 use Rattle.draft_resized.proofs.moved.put_moved.Goals as goal

@@ -1,5 +1,5 @@
 use Rattle.std.proofs.Common.{refl, None, ◌∙◌, arith}
-use Rattle.record_model.specs.declared.runs.Run.{Run}
+use Rattle.draft_bits.specs.record_model.declared.runs.Run.{Run}
 use Rattle.draft_runs.proofs.Steps.{begins, step, stops, ends, on_err}
 use Rattle.draft_runs.proofs.putting.put_runs.Goals as goal
 

@@ -1,6 +1,6 @@
 use Rattle.std.proofs.Common.{◌≡◌, drop}
 use Rattle.std.specs.Prelude.{IfSome}
-use Rattle.block_view.specs.Views.{KeepsView}
+use Rattle.draft_bits.specs.block_view.Views.{KeepsView}
 use Rattle.draft_runs.proofs.Steps.{Leads}
 use Rattle.draft_runs.proofs.putting.put_runs.Given as goal
 

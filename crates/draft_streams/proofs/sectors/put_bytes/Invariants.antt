@@ -1,6 +1,6 @@
 use Rattle.std.proofs.Common.{◌≡◌, ◌-◌}
 use Rattle.std.specs.Prelude.{IfSome}
-use Rattle.block_view.specs.Views.{KeepsView}
+use Rattle.stream_map.specs.block_view.Views.{KeepsView}
 use Rattle.draft_streams.specs.Parts.{touch_sectors, first_sector}
 use Rattle.draft_streams.proofs.sectors.put_bytes.Given as goal
 

@@ -1,7 +1,7 @@
 use Rattle.std.proofs.Common.{rules, ◌≡◌, None, sym, ◌∙◌}
 use Rattle.disk_model.specs.declared.block.BlockKind.TheVariants.{FileRec}
 use Rattle.stream_map.proofs.Reading.{kind-block_at}
-use Rattle.draft_records.specs.Records.{record_block}
+use Rattle.file_puts.specs.draft_records.Records.{record_block}
 use Rattle.file_makes.proofs.Lsns.{at_past, at_none}
 use Rattle.file_makes.proofs.lsn.lsn_at.Goals as goal
 

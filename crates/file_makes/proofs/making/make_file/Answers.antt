@@ -1,5 +1,5 @@
 use Rattle.std.proofs.Common.{rules, ◌≡◌, refl, ◌∙◌}
-use Rattle.index_tree.specs.Places.{place_of}
+use Rattle.file_puts.specs.index_tree.Places.{place_of}
 use Rattle.file_makes.proofs.Joins.{made_put}
 use Rattle.file_makes.proofs.making.make_file.Goals as goal
 

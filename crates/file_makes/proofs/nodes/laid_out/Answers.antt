@@ -1,5 +1,5 @@
-use Rattle.index_change.specs.Plans.{clusters_of}
-use Rattle.index_tree.specs.Places.{place_of}
+use Rattle.file_puts.specs.index_change.Plans.{clusters_of}
+use Rattle.file_puts.specs.index_tree.Places.{place_of}
 use Rattle.file_makes.proofs.Fitting.{laid_whole}
 use Rattle.file_makes.proofs.nodes.laid_out.Goals as goal
 

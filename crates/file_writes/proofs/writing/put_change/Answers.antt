@@ -1,4 +1,4 @@
-use Rattle.data_plan.specs.declared.change.DataChange.TheVariants as change
+use Rattle.file_puts.specs.data_plan.declared.change.DataChange.TheVariants as change
 use Rattle.file_writes.proofs.Cases.{in_stays_held, in_stays_room, in_leaves_held, in_leaves_ready, in_leaves_room, in_grows_ready, in_grows_room, in_grows_lies, in_grows_ends, in_grows_initialised, in_cut_ready, in_cut_room, in_sized, in_sized_room, in_sized_ends, in_sized_initialised}
 use Rattle.file_writes.proofs.Joins.{change_put, sized_put}
 use Rattle.file_writes.proofs.writing.put_change.Goals as goal

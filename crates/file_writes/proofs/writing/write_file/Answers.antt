@@ -1,6 +1,6 @@
 use Rattle.std.proofs.lemmas.Result.{err_from_is_err_and}
-use Rattle.data_plan.proofs.Cases.{takes_all}
-use Rattle.data_plan.specs.Changes.{growth_of}
+use Rattle.file_puts.proofs.data_plan.Cases.{takes_all}
+use Rattle.file_puts.specs.data_plan.Changes.{growth_of}
 use Rattle.file_writes.proofs.Cases.{short_data, row_data, refused_data, row_view, refused_view}
 use Rattle.file_writes.proofs.Joins.{file_put}
 use Rattle.file_writes.proofs.writing.write_file.Goals as goal

@@ -1,7 +1,7 @@
 use Rattle.std.proofs.Common.{◌≤◌, List, sym, subst, arith}
 use Rattle.record_model.specs.declared.runs.Run.{Run}
 use Rattle.record_model.specs.Pairs.{cluster_limit}
-use Rattle.record_streams.proofs.Spelled.{total_few}
+use Rattle.written_made.proofs.record_streams.Spelled.{total_few}
 use Rattle.state_model.specs.Loads.{total_clusters}
 use Rattle.found_files.proofs.placed.total_clusters.Goals as goal
 

@@ -1,4 +1,4 @@
-use Rattle.txn_state.specs.States.{facts_of}
+use Rattle.txn_core.specs.txn_state.States.{facts_of}
 use Rattle.found_stays.proofs.Writing.{sync_stays}
 use Rattle.found_stays.proofs.Turning.{restart_stays, turn_stays, store_keeps, window_machine, window_keeps}
 use Rattle.found_stays.proofs.laws.steps_stay.Goals as goal

@@ -1,6 +1,6 @@
 use Rattle.std.proofs.Common.{Option}
 use Rattle.std.proofs.lemmas.Result.{err_from_is_err_and}
-use Rattle.record_model.specs.Records.{Record}
+use Rattle.state_model.specs.record_model.Records.{Record}
 use Rattle.state_model.specs.Loads.{judged, slot_of, boot_block}
 use Rattle.image_open.specs.Volumes.{log_record}
 use Rattle.image_open.proofs.Steps.{map_error, map_value}

@@ -1,7 +1,7 @@
 use Rattle.std.proofs.Common.{Option}
 use Rattle.std.proofs.lemmas.Result.{err_from_is_err_and, IfOk-weaker}
 use Rattle.disk_model.specs.Content.{Content}
-use Rattle.record_model.specs.Records.{Record}
+use Rattle.state_model.specs.record_model.Records.{Record}
 use Rattle.log_recovery.specs.declared.found.RecoveredBlocks.{RecoveredBlocks}
 use Rattle.log_recovery.specs.Recovering.{content_with}
 use Rattle.image_open.specs.Volumes.{log_record, log_place, recovered_at, recovered_in}

@@ -1,5 +1,5 @@
 use Rattle.std.proofs.Common.{ℕ, ◌<◌, ◌≤◌, get_or}
-use Rattle.record_model.specs.declared.runs.Run.{Run}
+use Rattle.state_model.specs.record_model.declared.runs.Run.{Run}
 use Rattle.image_open.specs.LogPlaces.{IsHeldAlike}
 use Rattle.image_open.proofs.place.next_vcn.Given as goal
 

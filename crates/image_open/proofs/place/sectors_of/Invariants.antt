@@ -1,6 +1,6 @@
 use Rattle.std.proofs.Common.{◌-◌, ◌*◌, ◌≤◌}
 use Rattle.std.specs.Prelude.{All}
-use Rattle.log_reading.specs.LogPages.{IsSmall as IsSmallExtent}
+use Rattle.log_recovery.specs.log_reading.LogPages.{IsSmall as IsSmallExtent}
 use Rattle.image_open.specs.LogPlaces.{AreSectors}
 use Rattle.image_open.proofs.place.sectors_of.Given as goal
 

@@ -1,5 +1,5 @@
 use Rattle.std.proofs.Common.{rules, ◌∙◌, arith}
-use Rattle.device_view.proofs.Keeping.{device_failed, device_counts}
+use Rattle.log_recovery.proofs.device_view.Keeping.{device_failed, device_counts}
 use Rattle.image_open.specs.Errors.{scan_cause}
 use Rattle.image_open.proofs.volume.read_device.Goals as goal
 

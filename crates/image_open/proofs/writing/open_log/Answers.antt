@@ -1,6 +1,6 @@
 use Rattle.std.proofs.Common.{Option}
 use Rattle.std.proofs.lemmas.Result.{err_from_is_err_and}
-use Rattle.record_model.specs.Records.{Record}
+use Rattle.state_model.specs.record_model.Records.{Record}
 use Rattle.image_open.specs.Volumes.{log_record, log_place}
 use Rattle.image_open.specs.Writing.{OpenedToWrite, opened_at, opened_of}
 use Rattle.image_open.proofs.Steps.{fails_first}

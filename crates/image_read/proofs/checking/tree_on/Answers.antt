@@ -1,6 +1,6 @@
 use Rattle.file_tree.specs.declared.tree.Tree.{Tree}
-use Rattle.volume_map.specs.Maps.{volume_in, IsMapOf}
-use Rattle.volume_state.specs.Trees.{checked}
+use Rattle.image_open.specs.volume_map.Maps.{volume_in, IsMapOf}
+use Rattle.volume_check.specs.volume_state.Trees.{checked}
 use Rattle.image_read.specs.Checks.{tree_on}
 use Rattle.image_read.proofs.Rules.{check_error, check_value}
 use Rattle.image_read.proofs.checking.tree_on.Goals as goal

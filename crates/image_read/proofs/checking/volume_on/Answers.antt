@@ -1,6 +1,6 @@
 use Rattle.std.proofs.lemmas.Result.{err_from_is_err_and}
-use Rattle.volume_model.specs.Volumes.{volume_of}
-use Rattle.volume_map.specs.Maps.{volume_in}
+use Rattle.volume_check.specs.volume_model.Volumes.{volume_of}
+use Rattle.image_open.specs.volume_map.Maps.{volume_in}
 use Rattle.image_open.proofs.Steps.{map_error, map_value}
 use Rattle.image_read.specs.Checks.{volume_on}
 use Rattle.image_read.proofs.checking.volume_on.Goals as goal

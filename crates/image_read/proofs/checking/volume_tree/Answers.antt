@@ -1,7 +1,7 @@
 use Rattle.std.proofs.lemmas.Result.{err_from_is_err_and}
 use Rattle.file_tree.specs.declared.tree.Tree.{Tree}
-use Rattle.volume_map.specs.Maps.{volume_in, IsMapOf}
-use Rattle.volume_map.proofs.Mapped.{met}
+use Rattle.image_open.specs.volume_map.Maps.{volume_in, IsMapOf}
+use Rattle.image_open.proofs.volume_map.Mapped.{met}
 use Rattle.image_open.proofs.Steps.{fails_at_once, goes_on_at_once}
 use Rattle.image_read.specs.Checks.{has_version, tree_on, volume_tree}
 use Rattle.image_read.proofs.checking.volume_tree.Goals as goal

@@ -1,6 +1,6 @@
 use Rattle.std.proofs.lemmas.Result.{err_from_is_err_and}
-use Rattle.state_model.specs.declared.stream.Extents.{Extents}
-use Rattle.volume_map.specs.Maps.{volume_in}
+use Rattle.image_open.specs.state_model.declared.stream.Extents.{Extents}
+use Rattle.image_open.specs.volume_map.Maps.{volume_in}
 use Rattle.image_open.proofs.Steps.{fails_first, goes_on}
 use Rattle.image_read.specs.declared.reading.ReadJournal.{ReadJournal}
 use Rattle.image_read.specs.Records.{place_on, records_by, placed_records}

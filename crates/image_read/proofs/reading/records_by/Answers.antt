@@ -1,8 +1,8 @@
 use Rattle.std.proofs.Common.{Ok}
 use Rattle.std.proofs.lemmas.Result.{err_from_is_err_and}
 use Rattle.file_tree.specs.declared.tree.Tree.{Tree}
-use Rattle.volume_map.specs.Maps.{volume_in, IsMapOf}
-use Rattle.volume_map.proofs.Mapped.{met}
+use Rattle.image_open.specs.volume_map.Maps.{volume_in, IsMapOf}
+use Rattle.image_open.proofs.volume_map.Mapped.{met}
 use Rattle.image_open.proofs.Steps.{fails_first, goes_on}
 use Rattle.image_read.specs.Checks.{tree_on}
 use Rattle.image_read.specs.declared.reading.ReadJournal.{ReadJournal}

@@ -1,5 +1,5 @@
 use Rattle.std.proofs.lemmas.Result.{err_from_is_err_and}
-use Rattle.volume_map.specs.Maps.{volume_in}
+use Rattle.image_open.specs.volume_map.Maps.{volume_in}
 use Rattle.image_open.proofs.Steps.{fails_at_once, goes_on_at_once}
 use Rattle.image_read.specs.Checks.{has_version}
 use Rattle.image_read.specs.declared.reading.ReadJournal.{ReadJournal}

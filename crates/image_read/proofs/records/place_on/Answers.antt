@@ -1,4 +1,4 @@
-use Rattle.volume_map.specs.Maps.{volume_in}
+use Rattle.image_open.specs.volume_map.Maps.{volume_in}
 use Rattle.image_read.proofs.Entries.{placed}
 use Rattle.image_read.proofs.records.place_on.Goals as goal
 

@@ -1,7 +1,7 @@
 use Rattle.std.proofs.Common.{List, [], ◌∷◌, ◌++◌, sym, ◌∙◌, subst}
 use Rattle.std.specs.Prelude.{IfSome}
-use Rattle.disk_model.specs.declared.block.Change.{Change}
-use Rattle.disk_model.specs.Content.{Content}
+use Rattle.record_model.specs.disk_model.declared.block.Change.{Change}
+use Rattle.record_model.specs.disk_model.Content.{Content}
 use Rattle.index_change.specs.Changing.{PutNodes, AllWereOld}
 use Rattle.index_tree.specs.Places.{place_of}
 use Rattle.index_change.proofs.Counted.{put_more, old_known, all_fit}

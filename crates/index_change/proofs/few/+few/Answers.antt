@@ -1,6 +1,6 @@
 use Rattle.std.proofs.Common.{refl, ap, ◌∙◌, arith}
-use Rattle.disk_model.specs.Content.{Content}
-use Rattle.index_model.specs.Indexes.{node_of_block}
+use Rattle.record_model.specs.disk_model.Content.{Content}
+use Rattle.index_tree.specs.index_model.Indexes.{node_of_block}
 use Rattle.index_tree.specs.Places.{place_of}
 use Rattle.index_change.specs.Amounts.{key_before, keys_below, blocks_below}
 use Rattle.index_change.proofs.Fewer.{keys_known, blocks_known, count_next, met_next}

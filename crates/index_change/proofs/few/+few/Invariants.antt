@@ -1,6 +1,6 @@
 use Rattle.std.proofs.Common.{◌≡◌, ◌+◌, ◌*◌, ◌++◌, ◌≤◌, drop}
 use Rattle.std.specs.Prelude.{IfSome}
-use Rattle.index_model.specs.Indexes.{node_of_block}
+use Rattle.index_tree.specs.index_model.Indexes.{node_of_block}
 use Rattle.index_change.specs.Amounts.{keys_in, keys_below, blocks_in, blocks_below}
 use Rattle.index_tree.specs.Places.{place_of}
 use Rattle.index_change.proofs.few.+few.Given as goal

@@ -1,6 +1,6 @@
 use Rattle.std.proofs.Common.{◌≡◌, ◌+◌, ◌*◌, ◌≤◌, max, drop}
 use Rattle.std.specs.Prelude.{IfSome}
-use Rattle.index_model.specs.Indexes.{node_of_block}
+use Rattle.index_tree.specs.index_model.Indexes.{node_of_block}
 use Rattle.index_change.specs.Heights.{tallest, height_below}
 use Rattle.index_tree.specs.Places.{place_of}
 use Rattle.index_change.proofs.height.+height.Given as goal

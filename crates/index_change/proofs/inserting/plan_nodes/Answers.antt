@@ -1,10 +1,10 @@
 use Rattle.std.proofs.Common.{ℕ, List, Err, true, false, sym, ap, ◌∙◌}
 use Rattle.std.specs.List.{list_any}
 use Rattle.std.proofs.lemmas.Result.{err_from_is_err_and}
-use Rattle.file_tree.specs.declared.link.Link.{Link}
+use Rattle.index_tree.specs.file_tree.declared.link.Link.{Link}
 use Rattle.index_plan.specs.Lists.{own_key}
-use Rattle.disk_model.specs.Content.{Content}
-use Rattle.index_model.specs.Walks.{find_of}
+use Rattle.record_model.specs.disk_model.Content.{Content}
+use Rattle.index_tree.specs.index_model.Walks.{find_of}
 use Rattle.index_change.specs.Orders.{names_file, link_of}
 use Rattle.index_tree.specs.Places.{place_of}
 use Rattle.index_change.proofs.Insertions.{link_known, not_found, has_known, insert_known}

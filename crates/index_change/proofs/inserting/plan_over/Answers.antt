@@ -1,6 +1,6 @@
 use Rattle.std.proofs.Common.{◌≤◌, length}
-use Rattle.disk_model.specs.Content.{Content}
-use Rattle.index_model.specs.Indexes.{node_of_block}
+use Rattle.record_model.specs.disk_model.Content.{Content}
+use Rattle.index_tree.specs.index_model.Indexes.{node_of_block}
 use Rattle.index_plan.specs.declared.plan.Rooted.{Rooted}
 use Rattle.index_plan.specs.Laws.{InsertsInto, LevelFits, NeedsLevel, TakesFew}
 use Rattle.index_plan.specs.Reading.{NodeReads, nodes_of}

@@ -3,9 +3,9 @@ use Rattle.std.proofs.lemmas.Result.{err_from_is_err_and}
 use Rattle.index_plan.specs.Lists.{own_key}
 use Rattle.index_tree.specs.Places.{place_of}
 use Rattle.index_change.specs.Orders.{link_of, has_link}
-use Rattle.disk_model.specs.Content.{Content}
-use Rattle.file_tree.specs.declared.link.Link.{Link}
-use Rattle.index_model.specs.Walks.{find_of}
+use Rattle.record_model.specs.disk_model.Content.{Content}
+use Rattle.index_tree.specs.file_tree.declared.link.Link.{Link}
+use Rattle.index_tree.specs.index_model.Walks.{find_of}
 use Rattle.index_change.proofs.Insertions.{link_known}
 use Rattle.index_tree.specs.declared.fault.TreeFault.TheVariants.{Absent}
 use Rattle.index_change.specs.declared.plan.DirPlan.{DirPlan}

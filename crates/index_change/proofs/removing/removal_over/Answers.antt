@@ -1,5 +1,5 @@
-use Rattle.disk_model.specs.Content.{Content}
-use Rattle.index_model.specs.Indexes.{node_of_block}
+use Rattle.record_model.specs.disk_model.Content.{Content}
+use Rattle.index_tree.specs.index_model.Indexes.{node_of_block}
 use Rattle.index_plan.specs.Laws.{NeedsLevelWithout, RemovesFrom, TakesFewOut}
 use Rattle.index_plan.specs.Reading.{NodeReads, nodes_of}
 use Rattle.index_change.specs.Orders.{stands}

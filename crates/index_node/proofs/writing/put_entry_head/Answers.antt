@@ -1,5 +1,5 @@
 use Rattle.std.proofs.Common.{ℕ, ◌+◌, length, List, ap, ◌∙◌, refl}
-use Rattle.host_base.specs.FileRefs.{packed}
+use Rattle.disk_model.specs.host_base.FileRefs.{packed}
 use Rattle.disk_model.specs.Numbers.{spell}
 use Rattle.disk_model.specs.Bytes.{written, zeros}
 use Rattle.disk_model.proofs.Fields.{length-spell}

@@ -1,5 +1,5 @@
 use Rattle.std.proofs.Common.{◌≡◌, ◌-◌, ◌+◌, ℕ, arith, refl, ap, ◌∙◌, List, ◌++◌, ◌∷◌, []}
-use Rattle.host_base.proofs.Known.{always}
+use Rattle.index_model.proofs.host_base.Known.{always}
 use Rattle.std.proofs.lemmas.Result.{err_from_is_err_and}
 use Rattle.index_model.specs.Walks.{root_vcn}
 use Rattle.index_plan.specs.Plans.{Spot}

@@ -1,6 +1,6 @@
 use Rattle.std.proofs.Common.{arith, ◌≡◌, ◌<◌, Ok, Some, None, IsTrue}
 use Rattle.std.proofs.lemmas.Result.{err_from_is_err_and}
-use Rattle.host_base.proofs.Known.{one}
+use Rattle.index_model.proofs.host_base.Known.{one}
 use Rattle.index_plan.specs.declared.plan.Rooted.{Rooted}
 use Rattle.index_model.specs.Trees.{raw}
 use Rattle.index_plan.specs.Lists.{rise, rooted}

@@ -1,6 +1,6 @@
 use Rattle.std.proofs.Common.{leb, rules}
 use Rattle.std.proofs.lemmas.List.Sorted.{IsPartitionPoint-from_clause, IsPartitionedBy-leb}
-use Rattle.record_model.specs.declared.runs.Run.{Run}
+use Rattle.stream_map.specs.record_model.declared.runs.Run.{Run}
 use Rattle.index_tree.proofs.Near.{rising, near_holds}
 use Rattle.index_tree.proofs.blocks.run_near.Goals as goal
 

@@ -1,6 +1,6 @@
 use Rattle.std.proofs.lemmas.Result.{err_from_is_err_and}
-use Rattle.disk_model.specs.Content.{Content}
-use Rattle.record_model.specs.Nodes.{root_at}
+use Rattle.stream_map.specs.disk_model.Content.{Content}
+use Rattle.stream_map.specs.record_model.Nodes.{root_at}
 use Rattle.index_model.specs.Indexes.{node_of_block}
 use Rattle.index_model.specs.Walks.{sought_in, root_vcn, find_of}
 use Rattle.index_tree.specs.Places.{place_of}

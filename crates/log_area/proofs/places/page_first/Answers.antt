@@ -1,5 +1,5 @@
 use Rattle.std.proofs.Common.{◌≡◌, ℕ, ◌*◌, ◌<◌, List, Some, subst}
-use Rattle.log_page.specs.declared.places.Extent.{Extent}
+use Rattle.log_reading.specs.log_page.declared.places.Extent.{Extent}
 use Rattle.log_reading.specs.LogPages.{sector_in}
 use Rattle.log_area.proofs.Firsts.{first_found}
 use Rattle.log_area.proofs.places.page_first.Goals as goal

@@ -1,6 +1,6 @@
 use Rattle.std.proofs.Common.{◌≡◌, true, List, ℕ, subst, sym}
 use Rattle.disk_model.specs.Fixups.{is_in_shape}
-use Rattle.log_page.proofs.Spelled.{in_shape}
+use Rattle.log_reading.proofs.log_page.Spelled.{in_shape}
 use Rattle.log_area.proofs.restarting.put_restart.Goals as goal
 
 pub protect-requires-clause-shape : goal.protect-requires-clause-shape

@@ -1,6 +1,6 @@
 use Rattle.std.proofs.Common.{◌≡◌, ◌+◌, ◌-◌, ◌*◌, ◌≤◌, length}
 use Rattle.std.specs.Prelude.{All}
-use Rattle.log_model.specs.Entries.{FitsEntry}
+use Rattle.log_record.specs.log_model.Entries.{FitsEntry}
 use Rattle.log_page.specs.RecordPages.{entries_from}
 use Rattle.log_page.proofs.Readings.{with_front}
 use Rattle.log_page.proofs.entries.append_from.Given as goal

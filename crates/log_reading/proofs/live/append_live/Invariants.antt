@@ -1,6 +1,6 @@
 use Rattle.std.proofs.Common.{◌≡◌, ◌+◌, ◌^◌, ◌<◌, ◌≤◌}
 use Rattle.std.specs.Prelude.{All, IfSome}
-use Rattle.log_model.specs.Entries.{FitsEntry}
+use Rattle.log_page.specs.log_model.Entries.{FitsEntry}
 use Rattle.block_view.specs.Views.{KeepsView}
 use Rattle.log_reading.proofs.Walks.{IsRead}
 use Rattle.log_reading.proofs.live.append_live.Given as goal

@@ -1,7 +1,7 @@
 use Rattle.std.proofs.Common.{◌≡◌, Bool, take}
 use Rattle.std.specs.Prelude.{IfSome}
-use Rattle.block_view.specs.Views.{KeepsView}
-use Rattle.disk_model.specs.declared.block.Block.{Block}
+use Rattle.log_reading.specs.block_view.Views.{KeepsView}
+use Rattle.log_reading.specs.disk_model.declared.block.Block.{Block}
 use Rattle.log_recovery.specs.Own.{StandFor}
 use Rattle.log_recovery.specs.Writing.{is_barred_among, HasBarred}
 use Rattle.log_recovery.proofs.barring.barred_among.Given as goal

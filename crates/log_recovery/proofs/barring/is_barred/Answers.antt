@@ -1,6 +1,6 @@
 use Rattle.std.proofs.Common.{ap, sym, ◌∙◌}
 use Rattle.host_base.proofs.Known.{always}
-use Rattle.fixup_record.specs.Spellings.{has_spelling}
+use Rattle.log_reading.specs.fixup_record.Spellings.{has_spelling}
 use Rattle.log_recovery.proofs.Refusing.{bars_spelled}
 use Rattle.log_recovery.proofs.barring.is_barred.Goals as goal
 

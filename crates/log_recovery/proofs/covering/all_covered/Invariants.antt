@@ -1,6 +1,6 @@
 use Rattle.std.proofs.Common.{◌≡◌, ◌*◌, ℕ, false, length, get_or, take}
 use Rattle.std.specs.List.{list_any}
-use Rattle.disk_model.specs.Sectors.{sectors}
+use Rattle.log_reading.specs.disk_model.Sectors.{sectors}
 use Rattle.log_model.specs.declared.entry.Entry.{Entry}
 use Rattle.log_model.specs.Logs.{covers}
 use Rattle.log_recovery.specs.Groups.{lent}

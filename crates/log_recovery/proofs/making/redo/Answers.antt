@@ -1,7 +1,7 @@
 use Rattle.std.proofs.Common.{Bool, ap, ◌∙◌}
 use Rattle.std.specs.Ordering.{nat_cmp}
 use Rattle.std.specs.BTreeSet.{contains}
-use Rattle.disk_model.specs.Writes.{bytes_after}
+use Rattle.log_reading.specs.disk_model.Writes.{bytes_after}
 use Rattle.log_model.specs.Logs.{redo_of}
 use Rattle.log_recovery.proofs.Walking.{redone_more}
 use Rattle.log_recovery.proofs.making.redo.Goals as goal

@@ -1,8 +1,8 @@
 use Rattle.std.proofs.Common.{◌≡◌, ◌*◌, length, drop}
 use Rattle.std.specs.Ordering.{nat_cmp}
 use Rattle.std.specs.BTreeSet.{contains}
-use Rattle.disk_model.specs.Sectors.{sectors}
-use Rattle.disk_model.specs.Writes.{bytes_after}
+use Rattle.log_reading.specs.disk_model.Sectors.{sectors}
+use Rattle.log_reading.specs.disk_model.Writes.{bytes_after}
 use Rattle.log_model.specs.Logs.{redos}
 use Rattle.log_recovery.specs.Groups.{lent}
 use Rattle.log_recovery.proofs.making.redo.Given as goal

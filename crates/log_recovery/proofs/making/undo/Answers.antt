@@ -1,6 +1,6 @@
 use Rattle.std.proofs.Common.{◌-◌, length, ap, sym, ◌∙◌, arith}
 use Rattle.std.specs.Borrow.{Bor}
-use Rattle.disk_model.specs.Writes.{bytes_after}
+use Rattle.log_reading.specs.disk_model.Writes.{bytes_after}
 use Rattle.log_model.specs.declared.entry.Entry.{Entry}
 use Rattle.log_model.specs.Logs.{undo_of}
 use Rattle.log_recovery.proofs.Walking.{undone_more}

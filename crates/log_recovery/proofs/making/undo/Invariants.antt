@@ -1,6 +1,6 @@
 use Rattle.std.proofs.Common.{◌≡◌, ◌-◌, ◌*◌, length, take}
-use Rattle.disk_model.specs.Sectors.{sectors}
-use Rattle.disk_model.specs.Writes.{bytes_after}
+use Rattle.log_reading.specs.disk_model.Sectors.{sectors}
+use Rattle.log_reading.specs.disk_model.Writes.{bytes_after}
 use Rattle.log_model.specs.Logs.{undos_back}
 use Rattle.log_recovery.specs.Groups.{lent}
 use Rattle.log_recovery.proofs.making.undo.Given as goal

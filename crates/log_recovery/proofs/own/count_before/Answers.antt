@@ -1,6 +1,6 @@
 use Rattle.std.proofs.Common.{◌-◌, ltb, arith, rules}
 use Rattle.std.proofs.lemmas.List.Sorted.{IsPartitionPoint-from_clause, IsPartitionedBy-ltb}
-use Rattle.disk_model.specs.Sectors.{sectors}
+use Rattle.log_reading.specs.disk_model.Sectors.{sectors}
 use Rattle.log_recovery.specs.declared.own.Stretch.{Stretch}
 use Rattle.log_recovery.proofs.own.count_before.Goals as goal
 

@@ -1,6 +1,6 @@
 use Rattle.std.proofs.Common.{◌≡◌, ◌-◌, length, drop}
 use Rattle.std.specs.BTreeMap.{get}
-use Rattle.disk_model.specs.declared.block.Block.{Block}
+use Rattle.log_reading.specs.disk_model.declared.block.Block.{Block}
 use Rattle.log_recovery.specs.Places.{key_of, key_order, place_from}
 use Rattle.log_recovery.proofs.places.places_of.Given as goal
 

@@ -1,6 +1,6 @@
 use Rattle.std.proofs.Common.{◌≡◌, All, take}
 use Rattle.std.specs.Prelude.{IfSome}
-use Rattle.block_view.specs.Views.{KeepsView}
+use Rattle.log_reading.specs.block_view.Views.{KeepsView}
 use Rattle.log_recovery.specs.Recovering.{IsSized}
 use Rattle.log_recovery.specs.Finding.{Found}
 use Rattle.log_recovery.specs.Places.{HasMet}

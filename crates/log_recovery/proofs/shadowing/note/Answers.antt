@@ -1,7 +1,7 @@
 use Rattle.std.proofs.Common.{List, sym, subst, ◌∙◌}
 use Rattle.std.specs.Ordering.{nat_cmp}
 use Rattle.std.specs.BTreeSet.{contains}
-use Rattle.disk_model.specs.Sectors.{same_block}
+use Rattle.log_reading.specs.disk_model.Sectors.{same_block}
 use Rattle.log_recovery.specs.declared.found.Shadow.{Shadow}
 use Rattle.log_recovery.specs.Groups.{lent}
 use Rattle.log_recovery.specs.Shadows.{shadow_by, AddsShadows}

@@ -1,4 +1,4 @@
-use Rattle.draft_records.proofs.Written.{normal_more}
+use Rattle.data_plan.proofs.draft_records.Written.{normal_more}
 use Rattle.made_data.proofs.putting.push_all_normal.Goals as goal
 
 pub loop-attr-preserved : goal.loop-attr-preserved

@@ -1,5 +1,5 @@
 use Rattle.std.proofs.Common.{◌≡◌, take}
-use Rattle.draft_records.specs.Records.{with_normal}
+use Rattle.data_plan.specs.draft_records.Records.{with_normal}
 use Rattle.made_data.proofs.putting.push_all_normal.Given as goal
 
 abbrev pub invariant-loop-attr : goal.invariant-loop-attr

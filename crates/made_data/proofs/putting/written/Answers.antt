@@ -1,6 +1,6 @@
 use Rattle.std.proofs.Common.{◌≡◌, ap, ◌∙◌, arith}
 use Rattle.std.proofs.lemmas.List.Sums.{count_by-le-length}
-use Rattle.draft_records.specs.Records.{is_name, name_count}
+use Rattle.data_plan.specs.draft_records.Records.{is_name, name_count}
 use Rattle.made_data.proofs.putting.written.Goals as goal
 
 pub overflow_cast-links : goal.overflow_cast-links

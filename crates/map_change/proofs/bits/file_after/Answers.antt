@@ -1,7 +1,7 @@
 use Rattle.std.proofs.Common.{List, Option, sym, ap, ◌∙◌, arith}
-use Rattle.record_model.specs.Records.{Record}
-use Rattle.state_model.specs.Files.{file_at}
-use Rattle.state_model.specs.Loads.{table_in}
+use Rattle.volume_map.specs.record_model.Records.{Record}
+use Rattle.volume_map.specs.state_model.Files.{file_at}
+use Rattle.volume_map.specs.state_model.Loads.{table_in}
 use Rattle.map_change.specs.Parts.{live_parts}
 use Rattle.map_change.proofs.After.{none_after, put_after, stays_after}
 use Rattle.map_change.proofs.bits.file_after.Goals as goal

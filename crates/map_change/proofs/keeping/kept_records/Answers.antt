@@ -1,5 +1,5 @@
 use Rattle.std.proofs.Common.{ℕ, List, ◌*◌, ◌/◌, subst, ap, arith}
-use Rattle.record_model.specs.declared.runs.Run.{Run}
+use Rattle.volume_map.specs.record_model.declared.runs.Run.{Run}
 use Rattle.map_change.specs.Touching.{AgreeBelow}
 use Rattle.map_change.proofs.Places.{keeps_places}
 use Rattle.map_change.proofs.keeping.kept_records.Goals as goal

@@ -1,8 +1,8 @@
 use Rattle.std.proofs.Common.{◌≡◌, take, length}
 use Rattle.std.specs.Prelude.{IfSome}
 use Rattle.bit_set.specs.Words.{byte_bit}
-use Rattle.state_model.specs.Streams.{stream_bytes}
-use Rattle.block_view.specs.Views.{KeepsView}
+use Rattle.volume_map.specs.state_model.Streams.{stream_bytes}
+use Rattle.volume_map.specs.block_view.Views.{KeepsView}
 use Rattle.map_change.specs.Reading.{TellBits}
 use Rattle.map_change.proofs.marking.push_sectors.Given as goal
 

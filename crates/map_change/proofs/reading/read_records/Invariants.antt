@@ -1,6 +1,6 @@
 use Rattle.std.proofs.Common.{◌≡◌, take}
 use Rattle.std.specs.Prelude.{IfSome}
-use Rattle.block_view.specs.Views.{KeepsView}
+use Rattle.volume_map.specs.block_view.Views.{KeepsView}
 use Rattle.map_change.specs.Reading.{AreRead}
 use Rattle.map_change.proofs.reading.read_records.Given as goal
 

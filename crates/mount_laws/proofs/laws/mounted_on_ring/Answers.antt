@@ -1,4 +1,4 @@
-use Rattle.mount_laws.proofs.Mounted.{on_ring}
+use Rattle.mount_laws.proofs.Placed.{on_ring}
 use Rattle.mount_laws.proofs.laws.mounted_on_ring.Goals as goal
 
 pub returns : goal.returns

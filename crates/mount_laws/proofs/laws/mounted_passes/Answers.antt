@@ -1,4 +1,4 @@
-use Rattle.mount_laws.proofs.Mounted.{passes}
+use Rattle.mount_laws.proofs.Placed.{passes}
 use Rattle.mount_laws.proofs.laws.mounted_passes.Goals as goal
 
 pub returns : goal.returns

@@ -2,7 +2,7 @@ use Rattle.std.proofs.Common.{Global, Ok}
 use Rattle.std.specs.Prelude.{String, string_bytes}
 use Rattle.std.proofs.lemmas.Result.{err_from_is_err_and}
 use Rattle.file_tree.specs.declared.tree.Tree.{Tree}
-use Rattle.image_read.specs.Checks.{check_of}
+use Rattle.volume_run.specs.image_read.Checks.{check_of}
 use Rattle.image_dump.specs.Texts.{dump_text}
 use Rattle.ntfs_host.proofs.Answering.{fails_first, text_is, dump_is, refused_first, never_empty}
 use Rattle.ntfs_host.proofs.answers.dump_answer.Goals as goal

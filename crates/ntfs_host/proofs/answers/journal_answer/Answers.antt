@@ -2,8 +2,8 @@ use Rattle.std.proofs.Common.{Global, Ok}
 use Rattle.std.specs.Prelude.{String, string_bytes}
 use Rattle.std.proofs.lemmas.Result.{err_from_is_err_and}
 use Rattle.image_dump.specs.Texts.{journal_text}
-use Rattle.image_read.specs.declared.reading.ReadJournal.{ReadJournal}
-use Rattle.image_read.specs.Records.{journal_of}
+use Rattle.volume_run.specs.image_read.declared.reading.ReadJournal.{ReadJournal}
+use Rattle.volume_run.specs.image_read.Records.{journal_of}
 use Rattle.ntfs_host.proofs.Answering.{fails_first, text_is, journal_is, refused_first, never_empty}
 use Rattle.ntfs_host.proofs.answers.journal_answer.Goals as goal
 

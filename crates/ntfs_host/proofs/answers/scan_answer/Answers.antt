@@ -2,7 +2,7 @@ use Rattle.std.proofs.Common.{Vec, Global, Ok, ◌∙◌, ap}
 use Rattle.std.specs.Prelude.{String, string_bytes}
 use Rattle.std.proofs.lemmas.Result.{err_from_is_err_and}
 use Rattle.file_tree.specs.declared.link.Link.{Link}
-use Rattle.image_read.specs.Scans.{scan_of}
+use Rattle.volume_run.specs.image_read.Scans.{scan_of}
 use Rattle.image_dump.specs.Texts.{scan_text}
 use Rattle.ntfs_host.proofs.Answering.{fails_first, text_is, scan_is, refused_first, never_empty}
 use Rattle.ntfs_host.proofs.answers.scan_answer.Goals as goal

@@ -1,5 +1,5 @@
 use Rattle.std.proofs.Common.{◌+◌, ◌-◌, ◌≤◌}
-use Rattle.bit_set.specs.Bits.{IsClearRun}
+use Rattle.space_model.specs.bit_set.Bits.{IsClearRun}
 use Rattle.plan_space.proofs.choosing.clear_behind.Given as goal
 
 abbrev pub invariant-loop-count : goal.invariant-loop-count

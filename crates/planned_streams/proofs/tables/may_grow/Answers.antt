@@ -1,8 +1,8 @@
 use Rattle.std.proofs.Common.{◌≤◌, List, sym, subst, arith}
 use Rattle.record_model.specs.declared.runs.Run.{Run}
 use Rattle.record_model.specs.Pairs.{cluster_limit}
-use Rattle.record_streams.proofs.Spelled.{total_few}
-use Rattle.state_model.specs.Loads.{total_clusters}
+use Rattle.draft_growth.proofs.record_streams.Spelled.{total_few}
+use Rattle.draft_growth.specs.state_model.Loads.{total_clusters}
 use Rattle.planned_streams.proofs.tables.may_grow.Goals as goal
 
 pub total_clusters-requires : goal.total_clusters-requires

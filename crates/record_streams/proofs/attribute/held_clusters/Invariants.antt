@@ -1,6 +1,6 @@
 use Rattle.std.proofs.Common.{◌≡◌, ◌+◌, ◌≤◌, drop}
-use Rattle.record_model.specs.Pairs.{cluster_limit}
-use Rattle.state_model.specs.Loads.{total_clusters}
+use Rattle.record_writer.specs.record_model.Pairs.{cluster_limit}
+use Rattle.stream_map.specs.state_model.Loads.{total_clusters}
 use Rattle.record_streams.specs.Placing.{held_clusters}
 use Rattle.record_streams.proofs.attribute.held_clusters.Given as goal
 

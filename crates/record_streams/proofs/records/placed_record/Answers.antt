@@ -1,6 +1,6 @@
 use Rattle.std.proofs.Common.{◌≡◌, List, sym, ap, ◌∙◌, subst}
-use Rattle.record_model.specs.declared.attribute.Attr.{Attr}
-use Rattle.state_model.specs.Streams.{attributes_of}
+use Rattle.record_writer.specs.record_model.declared.attribute.Attr.{Attr}
+use Rattle.stream_map.specs.state_model.Streams.{attributes_of}
 use Rattle.stream_map.specs.Attributes.{behind}
 use Rattle.record_streams.specs.Placing.{placed_first}
 use Rattle.record_streams.specs.Fitting.{FitsButRoom}

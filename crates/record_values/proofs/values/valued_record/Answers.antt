@@ -1,7 +1,7 @@
 use Rattle.std.proofs.Common.{◌≡◌, List, sym, ap, ◌∙◌, subst}
-use Rattle.record_model.specs.declared.attribute.Attr.{Attr}
-use Rattle.state_model.specs.Streams.{attributes_of}
-use Rattle.stream_map.specs.Attributes.{behind}
+use Rattle.record_streams.specs.record_model.declared.attribute.Attr.{Attr}
+use Rattle.record_streams.specs.state_model.Streams.{attributes_of}
+use Rattle.record_streams.specs.stream_map.Attributes.{behind}
 use Rattle.record_streams.specs.Fitting.{FitsButRoom}
 use Rattle.record_values.specs.Values.{valued_first}
 use Rattle.record_values.proofs.Valued.{fits_valued}

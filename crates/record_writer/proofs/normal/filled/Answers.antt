@@ -1,5 +1,5 @@
 use Rattle.std.proofs.Common.{ℕ, List, ◌++◌, ap, ◌∙◌, arith}
-use Rattle.attr_codec.proofs.Pushed.{no_zero, zero_pushed}
+use Rattle.file_record.proofs.attr_codec.Pushed.{no_zero, zero_pushed}
 use Rattle.record_writer.proofs.Filling.{filled_by}
 use Rattle.record_writer.proofs.normal.filled.Goals as goal
 

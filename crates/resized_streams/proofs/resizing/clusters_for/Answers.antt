@@ -1,5 +1,5 @@
 use Rattle.std.proofs.Common.{sym, subst}
-use Rattle.state_model.specs.Clusters.{IsClusterSize}
+use Rattle.record_streams.specs.state_model.Clusters.{IsClusterSize}
 use Rattle.resized_streams.proofs.Chosen.{few_for}
 use Rattle.resized_streams.proofs.resizing.clusters_for.Goals as goal
 

@@ -1,6 +1,6 @@
 use Rattle.std.proofs.Common.{length, sym, ap, subst, arith}
-use Rattle.record_model.specs.Pairs.{HasSpelling}
-use Rattle.state_model.specs.declared.stream.Extents.{Extents}
+use Rattle.record_streams.specs.record_model.Pairs.{HasSpelling}
+use Rattle.record_streams.specs.state_model.declared.stream.Extents.{Extents}
 use Rattle.resized_streams.specs.Resizing.{clusters_for}
 use Rattle.resized_streams.proofs.Chosen.{follow_shortened, shortened_count}
 use Rattle.resized_streams.proofs.resizing.cut.Goals as goal

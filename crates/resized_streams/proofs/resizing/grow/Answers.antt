@@ -1,13 +1,13 @@
 use Rattle.std.proofs.Common.{◌≡◌, ℕ, ◌+◌, ◌≤◌, length, sym, ap, ◌∙◌, subst, arith}
 use Rattle.std.specs.Prelude.{not, count_by, All}
 use Rattle.plan_space.specs.declared.fault.SpaceFault.TheVariants.{Short}
-use Rattle.record_model.specs.Pairs.{cluster_limit, HasSpelling}
-use Rattle.space_model.specs.Choosing.{chosen}
-use Rattle.state_model.specs.declared.stream.Extents.{Extents}
-use Rattle.state_model.specs.Loads.{total_clusters}
-use Rattle.stream_runs.specs.Runs.{IsNear}
-use Rattle.stream_runs.proofs.Looping.{small_follow, all_near}
-use Rattle.stream_runs.proofs.Merging.{follow-grown}
+use Rattle.record_streams.specs.record_model.Pairs.{cluster_limit, HasSpelling}
+use Rattle.plan_space.specs.space_model.Choosing.{chosen}
+use Rattle.record_streams.specs.state_model.declared.stream.Extents.{Extents}
+use Rattle.record_streams.specs.state_model.Loads.{total_clusters}
+use Rattle.record_streams.specs.stream_runs.Runs.{IsNear}
+use Rattle.record_streams.proofs.stream_runs.Looping.{small_follow, all_near}
+use Rattle.record_streams.proofs.stream_runs.Merging.{follow-grown}
 use Rattle.resized_streams.proofs.Chosen.{total_chosen, total_grown, chosen_follow, chosen_count, grown_count, enough_of}
 use Rattle.resized_streams.proofs.resizing.grow.Goals as goal
 

@@ -1,5 +1,5 @@
 use Rattle.std.proofs.Common.{ap, arith}
-use Rattle.state_model.specs.Loads.{total_clusters}
+use Rattle.record_streams.specs.state_model.Loads.{total_clusters}
 use Rattle.resized_streams.proofs.Chosen.{total_grown}
 use Rattle.resized_streams.proofs.resizing.lengthened.Goals as goal
 

@@ -1,7 +1,7 @@
 use Rattle.std.proofs.Common.{ap, ◌∙◌, arith}
-use Rattle.state_model.specs.Loads.{total_clusters}
-use Rattle.stream_runs.specs.Runs.{merged}
-use Rattle.stream_runs.proofs.Merging.{total-merged}
+use Rattle.record_streams.specs.state_model.Loads.{total_clusters}
+use Rattle.record_streams.specs.stream_runs.Runs.{merged}
+use Rattle.record_streams.proofs.stream_runs.Merging.{total-merged}
 use Rattle.resized_streams.proofs.Chosen.{few_front}
 use Rattle.resized_streams.proofs.resizing.shortened.Goals as goal
 

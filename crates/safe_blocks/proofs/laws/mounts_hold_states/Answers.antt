@@ -1,4 +1,4 @@
-use Rattle.safe_blocks.proofs.Mounted.{suits, geometry, stands, holds, holds_mounted, holds_disk}
+use Rattle.safe_blocks.proofs.Starting.{suits, geometry, stands, holds, holds_mounted, holds_disk}
 use Rattle.safe_blocks.proofs.laws.mounts_hold_states.Goals as goal
 
 pub returns : goal.returns

@@ -1,5 +1,5 @@
 use Rattle.std.proofs.Common.{◌∙◌, arith, subst}
-use Rattle.txn_state.specs.States.{StateOf, facts_of, IsStore}
+use Rattle.turn_laws.specs.txn_state.States.{StateOf, facts_of, IsStore}
 use Rattle.state_store.proofs.Going.{may_here, goes_here, stops_here, ends_here}
 use Rattle.state_store.proofs.logging.change_all.Goals as goal
 

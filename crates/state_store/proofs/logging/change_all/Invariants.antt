@@ -1,5 +1,5 @@
 use Rattle.std.proofs.Common.{◌≡◌, drop}
-use Rattle.txn_state.specs.States.{facts_of}
+use Rattle.turn_laws.specs.txn_state.States.{facts_of}
 use Rattle.state_store.proofs.Going.{GoesOn}
 use Rattle.state_store.proofs.logging.change_all.Given as goal
 

@@ -1,7 +1,7 @@
 use Rattle.std.proofs.Common.{◌∙◌, ap, sym, subst}
 use Rattle.std.proofs.lemmas.List.Elements.{recursion_from_All}
-use Rattle.txn_model.specs.Values.{StoreFacts}
-use Rattle.txn_state.specs.States.{facts_of}
+use Rattle.turn_laws.specs.txn_model.Values.{StoreFacts}
+use Rattle.turn_laws.specs.txn_state.States.{facts_of}
 use Rattle.state_store.specs.Changes.{MayLog}
 use Rattle.state_store.specs.Logging.{MayLogAll}
 use Rattle.state_store.proofs.Contents.{still_open}

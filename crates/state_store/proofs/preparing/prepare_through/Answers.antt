@@ -1,5 +1,5 @@
 use Rattle.std.proofs.Common.{rules, ◌∙◌, arith}
-use Rattle.volume_map.specs.Errors.{map_cause}
+use Rattle.same_names.specs.volume_map.Errors.{map_cause}
 use Rattle.state_store.proofs.Reading.{store_failed, store_counts}
 use Rattle.state_store.proofs.preparing.prepare_through.Goals as goal
 

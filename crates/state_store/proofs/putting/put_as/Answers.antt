@@ -1,4 +1,4 @@
-use Rattle.map_change.specs.Parts.{live_parts}
+use Rattle.same_names.specs.map_change.Parts.{live_parts}
 use Rattle.state_store.proofs.Outcomes.{ok_as, err_as, change_short, change_broken, change_counts}
 use Rattle.state_store.proofs.putting.put_as.Goals as goal
 

@@ -2,9 +2,9 @@ use Rattle.std.proofs.Common.{subst, sym, ◌∙◌}
 use Rattle.std.proofs.lemmas.Bool.{eqb-true}
 use Rattle.std.proofs.lemmas.List.{nil_from_length}
 use Rattle.std.proofs.lemmas.List.Elements.{recursion_from_All}
-use Rattle.map_change.specs.Parts.{live_parts}
-use Rattle.txn_state.specs.States.{StateOf, facts_of, IsStore}
-use Rattle.txn_core.specs.Views.{present_content}
+use Rattle.same_names.specs.map_change.Parts.{live_parts}
+use Rattle.turn_laws.specs.txn_state.States.{StateOf, facts_of, IsStore}
+use Rattle.turn_laws.specs.txn_core.Views.{present_content}
 use Rattle.state_store.specs.Changes.{MayLog}
 use Rattle.state_store.proofs.Sparing.{some_length}
 use Rattle.state_store.proofs.Outcomes.{nothing_put, all_maps, all_writable, holds_again}

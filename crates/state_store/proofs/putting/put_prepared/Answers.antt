@@ -1,7 +1,7 @@
 use Rattle.std.proofs.Common.{subst, refl}
-use Rattle.txn_state.specs.States.{StateOf, facts_of, IsStore}
-use Rattle.map_change.specs.Parts.{live_parts}
-use Rattle.map_change.specs.Applying.{applied}
+use Rattle.turn_laws.specs.txn_state.States.{StateOf, facts_of, IsStore}
+use Rattle.same_names.specs.map_change.Parts.{live_parts}
+use Rattle.same_names.specs.map_change.Applying.{applied}
 use Rattle.state_store.proofs.Outcomes.{are_spelled, is_put, is_left}
 use Rattle.state_store.proofs.putting.put_prepared.Goals as goal
 

@@ -1,5 +1,5 @@
 use Rattle.std.proofs.Common.{refl}
-use Rattle.map_change.specs.Parts.{live_parts}
+use Rattle.same_names.specs.map_change.Parts.{live_parts}
 use Rattle.state_store.proofs.Outcomes.{none_put, lacks_answer, lacks_broken, lacks_causes, room_answer}
 use Rattle.state_store.proofs.putting.put_some.Goals as goal
 

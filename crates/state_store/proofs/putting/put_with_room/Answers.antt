@@ -1,4 +1,4 @@
-use Rattle.map_change.specs.Parts.{live_parts}
+use Rattle.same_names.specs.map_change.Parts.{live_parts}
 use Rattle.state_store.proofs.Outcomes.{none_put, after_reading, broken_since, causes_since, causes_of}
 use Rattle.state_store.proofs.putting.put_with_room.Goals as goal
 

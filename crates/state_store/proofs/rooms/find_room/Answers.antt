@@ -1,4 +1,4 @@
-use Rattle.txn_state.specs.States.{facts_of}
+use Rattle.turn_laws.specs.txn_state.States.{facts_of}
 use Rattle.state_store.proofs.Roomy.{is_short}
 use Rattle.state_store.proofs.rooms.find_room.Goals as goal
 

@@ -1,6 +1,6 @@
 use Rattle.std.proofs.Common.{subst}
-use Rattle.map_change.specs.Parts.{live_parts}
-use Rattle.txn_state.specs.States.{StateOf, facts_of, IsStore}
+use Rattle.same_names.specs.map_change.Parts.{live_parts}
+use Rattle.turn_laws.specs.txn_state.States.{StateOf, facts_of, IsStore}
 use Rattle.state_store.proofs.Turned.{turns_volume}
 use Rattle.state_store.proofs.turning.turn_store.Goals as goal
 

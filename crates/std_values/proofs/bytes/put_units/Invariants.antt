@@ -1,5 +1,5 @@
 use Rattle.std.proofs.Common.{◌≡◌, take}
-use Rattle.disk_model.specs.Bytes.{written}
+use Rattle.record_model.specs.disk_model.Bytes.{written}
 use Rattle.record_model.specs.Attributes.{unit_bytes}
 use Rattle.std_values.proofs.bytes.put_units.Given as goal
 

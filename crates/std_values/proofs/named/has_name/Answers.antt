@@ -1,5 +1,5 @@
 use Rattle.std.proofs.Common.{◌≡◌, true, Bool, false, not, refl, sym, ap, ◌∙◌, arith}
-use Rattle.utf16_name.specs.Names.{is_bad_unit}
+use Rattle.record_model.specs.utf16_name.Names.{is_bad_unit}
 use Rattle.std_values.proofs.Naming.{bad_unit, good_units}
 use Rattle.std_values.proofs.named.has_name.Goals as goal
 

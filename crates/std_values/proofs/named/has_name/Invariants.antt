@@ -1,6 +1,6 @@
 use Rattle.std.proofs.Common.{◌≡◌, ℕ, ◌+◌, ◌*◌, ◌<◌, false}
-use Rattle.disk_model.specs.Numbers.{field}
-use Rattle.utf16_name.specs.Names.{is_bad_unit}
+use Rattle.record_model.specs.disk_model.Numbers.{field}
+use Rattle.record_model.specs.utf16_name.Names.{is_bad_unit}
 use Rattle.std_values.proofs.named.has_name.Given as goal
 
 abbrev pub invariant-loop-i : goal.invariant-loop-i

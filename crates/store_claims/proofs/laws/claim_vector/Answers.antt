@@ -1,5 +1,5 @@
 use Rattle.std.proofs.Common.{refl}
-use Rattle.log_model.specs.Logs.{is_shadowed}
+use Rattle.store_model.specs.log_model.Logs.{is_shadowed}
 use Rattle.store_claims.specs.Claims.{claims_in, claims_with}
 use Rattle.store_claims.proofs.laws.claim_vector.Goals as goal
 

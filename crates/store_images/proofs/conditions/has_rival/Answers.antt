@@ -1,9 +1,9 @@
 use Rattle.std.proofs.Common.{subst, sym, ◌∙◌, ◌<◌, ℕ}
 use Rattle.std.specs.Prelude.{is_some}
 use Rattle.disk_model.specs.declared.block.Block.{Block}
-use Rattle.txn_model.specs.Calls.{rivals_of}
-use Rattle.txn_state.specs.States.{facts_of}
-use Rattle.txn_state.proofs.Turning.{any_step, any_found}
+use Rattle.txn_core.specs.txn_model.Calls.{rivals_of}
+use Rattle.txn_core.specs.txn_state.States.{facts_of}
+use Rattle.txn_core.proofs.txn_state.Turning.{any_step, any_found}
 use Rattle.store_images.proofs.conditions.has_rival.Goals as goal
 
 pub returns-then-is_changed : goal.returns-then-is_changed

@@ -1,5 +1,5 @@
 use Rattle.std.proofs.Common.{sym, ◌∙◌}
-use Rattle.txn_state.specs.States.{facts_of}
+use Rattle.txn_core.specs.txn_state.States.{facts_of}
 use Rattle.store_images.proofs.Beside.{alone_by, denied}
 use Rattle.store_images.proofs.conditions.is_alone.Goals as goal
 

@@ -1,6 +1,6 @@
 use Rattle.std.proofs.Common.{List, length, subst, sym, ap, ◌∙◌}
 use Rattle.std.proofs.lemmas.Bool.{eqb-true}
-use Rattle.txn_state.specs.States.{facts_of}
+use Rattle.txn_core.specs.txn_state.States.{facts_of}
 use Rattle.log_page.specs.declared.places.LogPlace.{LogPlace}
 use Rattle.log_page.specs.declared.places.Extent.{Extent}
 use Rattle.store_images.specs.Running.{IsBeside}

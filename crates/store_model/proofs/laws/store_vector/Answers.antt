@@ -1,5 +1,5 @@
 use Rattle.std.proofs.Common.{refl}
-use Rattle.disk_model.specs.Writes.{cover_all}
+use Rattle.log_model.specs.disk_model.Writes.{cover_all}
 use Rattle.log_model.specs.Logs.{is_shadowed, recovered, is_covered_whole}
 use Rattle.store_model.proofs.laws.store_vector.Goals as goal
 

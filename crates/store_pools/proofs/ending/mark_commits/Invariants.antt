@@ -1,7 +1,7 @@
 use Rattle.std.proofs.Common.{◌≡◌, length}
 use Rattle.std.specs.Prelude.{IsSome}
-use Rattle.disk_model.specs.declared.block.Block.{Block}
-use Rattle.block_pool.specs.Pools.{held}
+use Rattle.txn_model.specs.disk_model.declared.block.Block.{Block}
+use Rattle.txn_model.specs.block_pool.Pools.{held}
 use Rattle.store_pools.specs.Pools.{marks_of}
 use Rattle.store_pools.proofs.Ends.{once_turned}
 use Rattle.store_pools.proofs.ending.mark_commits.Given as goal

@@ -1,8 +1,8 @@
 use Rattle.std.proofs.Common.{◌≡◌, true, false, length}
 use Rattle.std.specs.Prelude.{IsSome}
 use Rattle.std.specs.Option.{option_or}
-use Rattle.disk_model.specs.declared.block.Block.{Block}
-use Rattle.block_pool.specs.Pools.{held}
+use Rattle.txn_model.specs.disk_model.declared.block.Block.{Block}
+use Rattle.txn_model.specs.block_pool.Pools.{held}
 use Rattle.store_pools.specs.Pools.{bodies_of, marks_of}
 use Rattle.store_pools.proofs.Ends.{once_turned}
 use Rattle.store_pools.proofs.ending.restore.Given as goal

@@ -1,4 +1,4 @@
-use Rattle.disk_model.specs.Writes.{overlay}
+use Rattle.volume_model.specs.disk_model.Writes.{overlay}
 use Rattle.stream_laws.proofs.Recording.{others_stay, records_set, record_read}
 use Rattle.stream_laws.proofs.laws.one_record_changed.Goals as goal
 

@@ -3,7 +3,7 @@ use Rattle.std.specs.Prelude.{IfSome}
 use Rattle.std.specs.List.{list_any, range_with_len}
 use Rattle.state_model.specs.Streams.{block_at}
 use Rattle.volume_model.specs.Sizes.{is_torn_at}
-use Rattle.record_model.specs.Runs.{AreSmall}
+use Rattle.stream_map.specs.record_model.Runs.{AreSmall}
 use Rattle.block_view.specs.Views.{KeepsView}
 use Rattle.stream_rules.proofs.torn.has_torn_below.Given as goal
 

@@ -1,5 +1,5 @@
 use Rattle.std.proofs.Common.{None, get_or, refl, sym, ◌∙◌}
-use Rattle.record_model.specs.declared.runs.Run.{Run}
+use Rattle.stream_map.specs.record_model.declared.runs.Run.{Run}
 use Rattle.stream_rules.proofs.Passing.{passed_here}
 use Rattle.stream_rules.proofs.torn.passed.Goals as goal
 

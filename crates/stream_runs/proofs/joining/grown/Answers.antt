@@ -1,8 +1,8 @@
 use Rattle.std.proofs.Common.{◌≡◌, ℕ, ◌+◌, ◌≤◌, List, ◌++◌, map, sym, ap, ap₂, ◌∙◌, subst, arith}
-use Rattle.record_model.specs.declared.runs.Run.{Run}
-use Rattle.record_model.specs.Pairs.{cluster_limit, Follow}
-use Rattle.record_model.specs.Runs.{AreSmall}
-use Rattle.state_model.specs.Loads.{total_clusters}
+use Rattle.volume_model.specs.record_model.declared.runs.Run.{Run}
+use Rattle.volume_model.specs.record_model.Pairs.{cluster_limit, Follow}
+use Rattle.volume_model.specs.record_model.Runs.{AreSmall}
+use Rattle.volume_model.specs.state_model.Loads.{total_clusters}
 use Rattle.stream_runs.specs.Runs.{moved}
 use Rattle.stream_runs.proofs.Merging.{total-append, total-moved, follow-append, follow-moved}
 use Rattle.stream_runs.proofs.Looping.{small_follow}

@@ -1,10 +1,10 @@
 use Rattle.std.proofs.Common.{◌≡◌, ℕ, ◌+◌, ◌≤◌, List, [], ◌∷◌, ◌++◌, get_or, drop, true, false, None, refl, sym, ap, ap₂, ◌∙◌, subst, arith}
 use Rattle.std.proofs.lemmas.List.{nil_from_length}
 use Rattle.std.proofs.lemmas.List.Elements.{All-head, All-tail, All-get_or}
-use Rattle.record_model.specs.declared.runs.Run.{Run}
-use Rattle.record_model.specs.Pairs.{cluster_limit}
-use Rattle.record_model.specs.Runs.{IsSmall, AreSmall}
-use Rattle.state_model.specs.Loads.{total_clusters}
+use Rattle.volume_model.specs.record_model.declared.runs.Run.{Run}
+use Rattle.volume_model.specs.record_model.Pairs.{cluster_limit}
+use Rattle.volume_model.specs.record_model.Runs.{IsSmall, AreSmall}
+use Rattle.volume_model.specs.state_model.Loads.{total_clusters}
 use Rattle.stream_runs.specs.Runs.{touches, in_front, merged}
 use Rattle.stream_runs.proofs.Merging.{both, merged-cons, merged-nil}
 use Rattle.stream_runs.proofs.Looping.{total_next, joins, parts, all_joined}

@@ -1,7 +1,7 @@
 use Rattle.std.proofs.Common.{◌≡◌, ◌+◌, ◌++◌, ◌≤◌, drop}
-use Rattle.record_model.specs.Pairs.{cluster_limit}
-use Rattle.record_model.specs.Runs.{IsSmall}
-use Rattle.state_model.specs.Loads.{total_clusters}
+use Rattle.volume_model.specs.record_model.Pairs.{cluster_limit}
+use Rattle.volume_model.specs.record_model.Runs.{IsSmall}
+use Rattle.volume_model.specs.state_model.Loads.{total_clusters}
 use Rattle.stream_runs.specs.Runs.{in_front, merged}
 use Rattle.stream_runs.proofs.joining.joined.Given as goal
 

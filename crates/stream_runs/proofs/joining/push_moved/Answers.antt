@@ -1,5 +1,5 @@
 use Rattle.std.proofs.Common.{arith, None}
-use Rattle.record_model.specs.declared.runs.Run.{Run}
+use Rattle.volume_model.specs.record_model.declared.runs.Run.{Run}
 use Rattle.stream_runs.proofs.Looping.{vcn_at}
 use Rattle.stream_runs.proofs.joining.push_moved.Goals as goal
 

@@ -1,5 +1,5 @@
 use Rattle.std.proofs.Common.{◌≡◌, ◌+◌, drop}
-use Rattle.state_model.specs.Loads.{total_clusters}
+use Rattle.volume_model.specs.state_model.Loads.{total_clusters}
 use Rattle.stream_runs.proofs.joining.total_clusters.Given as goal
 
 -- the clusters so far and those of the runs that are left are all

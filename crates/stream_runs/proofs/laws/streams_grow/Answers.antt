@@ -1,6 +1,6 @@
 use Rattle.std.proofs.Common.{◌≡◌, ℕ, ◌+◌, List, ◌++◌, map, ◌∙◌, ap}
-use Rattle.record_model.specs.declared.runs.Run.{Run}
-use Rattle.state_model.specs.Loads.{total_clusters}
+use Rattle.volume_model.specs.record_model.declared.runs.Run.{Run}
+use Rattle.volume_model.specs.state_model.Loads.{total_clusters}
 use Rattle.volume_model.specs.Owners.{uses}
 use Rattle.stream_runs.specs.Runs.{moved, grown}
 use Rattle.stream_runs.proofs.Merging.{total-merged, total-append, total-moved, uses-merged, uses-append, uses-moved, follow-grown}

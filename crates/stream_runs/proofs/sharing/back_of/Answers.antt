@@ -1,8 +1,8 @@
 use Rattle.std.proofs.Common.{◌≡◌, ◌+◌, List, ◌∷◌, ◌++◌, [], drop, None, arith, sym, ap, ◌∙◌, subst}
 use Rattle.std.specs.Prelude.{All}
 use Rattle.std.proofs.lemmas.List.Elements.{All-get_or, All-drop, All-take, All-append, All-cons, All-nil}
-use Rattle.record_model.specs.declared.runs.Run.{Run}
-use Rattle.record_model.specs.Runs.{IsSmall}
+use Rattle.volume_model.specs.record_model.declared.runs.Run.{Run}
+use Rattle.volume_model.specs.record_model.Runs.{IsSmall}
 use Rattle.stream_runs.specs.Runs.{IsNear}
 use Rattle.stream_runs.proofs.Looping.{vcn_at, all_near}
 use Rattle.stream_runs.proofs.sharing.back_of.Goals as goal

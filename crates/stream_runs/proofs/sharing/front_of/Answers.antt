@@ -1,5 +1,5 @@
 use Rattle.std.proofs.Common.{◌≡◌, List, ◌++◌, ◌∷◌, [], None, drop, ◌+◌, ◌-◌, get_or, ap, ◌∙◌}
-use Rattle.record_model.specs.declared.runs.Run.{Run}
+use Rattle.volume_model.specs.record_model.declared.runs.Run.{Run}
 use Rattle.stream_runs.specs.Runs.{front}
 use Rattle.stream_runs.proofs.Looping.{takes, cuts_some, cuts_none, all_taken}
 use Rattle.stream_runs.proofs.sharing.front_of.Goals as goal

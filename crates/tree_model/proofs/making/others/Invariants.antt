@@ -1,6 +1,6 @@
 use Rattle.std.proofs.Common.{◌≡◌, take}
 use Rattle.std.specs.Prelude.{filter, not, ◌==◌}
-use Rattle.host_base.specs.declared.file_ref.FileRef.{FileRef}
+use Rattle.file_tree.specs.host_base.declared.file_ref.FileRef.{FileRef}
 use Rattle.tree_model.proofs.making.others.Given as goal
 
 abbrev pub invariant-loop-reference : goal.invariant-loop-reference

@@ -1,4 +1,4 @@
-use Rattle.txn_state.specs.States.{facts_of}
+use Rattle.txn_core.specs.txn_state.States.{facts_of}
 use Rattle.txn_core.specs.Steps.{AfterTurn}
 use Rattle.turn_laws.proofs.Falling.{falls}
 use Rattle.turn_laws.proofs.Sparing.{turn_spares, stays_unknown}

@@ -1,4 +1,4 @@
-use Rattle.txn_state.specs.States.{facts_of}
+use Rattle.found_stays.specs.txn_state.States.{facts_of}
 use Rattle.txn_close.specs.Rests.{stopped_facts}
 use Rattle.txn_close.proofs.Passing.{goes_joined, goes_to_end}
 use Rattle.txn_close.proofs.Clean.{leaves_then}

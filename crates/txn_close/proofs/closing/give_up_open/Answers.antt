@@ -1,7 +1,7 @@
 use Rattle.std.proofs.Common.{◌≡◌, true, false, sym, subst, ◌∙◌, arith}
-use Rattle.txn_model.specs.Values.{StoreFacts}
-use Rattle.txn_state.specs.States.{facts_of}
-use Rattle.txn_laws.specs.Windows.{AfterGiveUp}
+use Rattle.found_stays.specs.txn_model.Values.{StoreFacts}
+use Rattle.found_stays.specs.txn_state.States.{facts_of}
+use Rattle.found_stays.specs.txn_laws.Windows.{AfterGiveUp}
 use Rattle.txn_close.specs.Rests.{stopped_facts}
 use Rattle.txn_close.specs.Passing.{Fewer}
 use Rattle.txn_close.proofs.Passing.{fewer_same, goes_none}

@@ -1,5 +1,5 @@
-use Rattle.txn_state.specs.States.{facts_of}
-use Rattle.txn_laws.specs.Windows.{AfterWrite}
+use Rattle.found_stays.specs.txn_state.States.{facts_of}
+use Rattle.found_stays.specs.txn_laws.Windows.{AfterWrite}
 use Rattle.txn_close.specs.Rests.{stopped_facts}
 use Rattle.txn_close.proofs.Passing.{goes_joined}
 use Rattle.txn_close.proofs.Turning.{fewer_at, spares_written, seal_rises, rises_at, goes_in_memory}

@@ -1,7 +1,7 @@
 use Rattle.std.proofs.Common.{sym, refl, ◌∙◌}
-use Rattle.txn_state.specs.States.{facts_of}
-use Rattle.txn_core.specs.Leading.{dirty_blocks}
-use Rattle.txn_core.proofs.Leading.{steps_lead_on}
+use Rattle.found_stays.specs.txn_state.States.{facts_of}
+use Rattle.found_stays.specs.txn_core.Leading.{dirty_blocks}
+use Rattle.found_stays.proofs.txn_core.Leading.{steps_lead_on}
 use Rattle.txn_close.proofs.Passing.{fewer_same, goes_none, goes_joined}
 use Rattle.txn_close.proofs.Turning.{goes_turned}
 use Rattle.txn_close.proofs.Drained.{may_turn, stays_shut, less_to_do, is_drained}

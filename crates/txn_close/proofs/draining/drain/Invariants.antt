@@ -1,10 +1,10 @@
 use Rattle.std.proofs.Common.{◌≡◌, length}
 use Rattle.flush_policy.specs.Steps.{to_do}
-use Rattle.log_area.specs.Areas.{next_lsn}
-use Rattle.txn_model.specs.Told.{FactsTold, KeepsMarked, KeepsSteps}
-use Rattle.txn_state.specs.States.{facts_of}
-use Rattle.txn_core.specs.Kept.{IsKept}
-use Rattle.txn_core.specs.Leading.{dirty_blocks}
+use Rattle.found_stays.specs.log_area.Areas.{next_lsn}
+use Rattle.found_stays.specs.txn_model.Told.{FactsTold, KeepsMarked, KeepsSteps}
+use Rattle.found_stays.specs.txn_state.States.{facts_of}
+use Rattle.found_stays.specs.txn_core.Kept.{IsKept}
+use Rattle.found_stays.specs.txn_core.Leading.{dirty_blocks}
 use Rattle.txn_close.specs.Passing.{Goes}
 use Rattle.txn_close.proofs.Drained.{with_next, IsShut}
 use Rattle.txn_close.proofs.draining.drain.Given as goal

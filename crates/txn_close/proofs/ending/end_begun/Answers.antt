@@ -1,4 +1,4 @@
-use Rattle.txn_state.specs.States.{facts_of}
+use Rattle.found_stays.specs.txn_state.States.{facts_of}
 use Rattle.txn_close.proofs.Passing.{fewer_same, goes_none}
 use Rattle.txn_close.proofs.Ended.{then_drained}
 use Rattle.txn_close.proofs.ending.end_begun.Goals as goal

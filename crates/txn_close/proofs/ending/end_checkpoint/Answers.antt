@@ -1,5 +1,5 @@
 use Rattle.std.proofs.Common.{false}
-use Rattle.txn_state.specs.States.{facts_of}
+use Rattle.found_stays.specs.txn_state.States.{facts_of}
 use Rattle.txn_close.proofs.Passing.{fewer_same, goes_none, goes_joined}
 use Rattle.txn_close.proofs.Turning.{goes_restarted, goes_synced}
 use Rattle.txn_close.proofs.ending.end_checkpoint.Goals as goal

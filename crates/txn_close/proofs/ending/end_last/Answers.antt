@@ -1,5 +1,5 @@
 use Rattle.std.proofs.Common.{true}
-use Rattle.txn_state.specs.States.{facts_of}
+use Rattle.found_stays.specs.txn_state.States.{facts_of}
 use Rattle.txn_close.proofs.Passing.{goes_joined}
 use Rattle.txn_close.proofs.Turning.{goes_restarted, goes_synced}
 use Rattle.txn_close.proofs.ending.end_last.Goals as goal

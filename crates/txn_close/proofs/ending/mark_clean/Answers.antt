@@ -1,12 +1,12 @@
 use Rattle.std.proofs.Common.{◌≡◌, true, false, None, Some, sym, ap, subst, refl, ◌∙◌}
 use Rattle.std.specs.Prelude.{IsSome}
 use Rattle.store_model.proofs.Told.{true≢false}
-use Rattle.txn_core.specs.Turns.{HasNext, IsLast}
-use Rattle.txn_model.specs.Values.{StoreFacts}
-use Rattle.txn_model.specs.Calls.{noted_facts}
-use Rattle.txn_state.specs.States.{facts_of}
-use Rattle.txn_laws.specs.Windows.{AfterWrite}
-use Rattle.txn_core.specs.Seen.{Seen}
+use Rattle.found_stays.specs.txn_core.Turns.{HasNext, IsLast}
+use Rattle.found_stays.specs.txn_model.Values.{StoreFacts}
+use Rattle.found_stays.specs.txn_model.Calls.{noted_facts}
+use Rattle.found_stays.specs.txn_state.States.{facts_of}
+use Rattle.found_stays.specs.txn_laws.Windows.{AfterWrite}
+use Rattle.found_stays.specs.txn_core.Seen.{Seen}
 use Rattle.txn_close.specs.Rests.{IsDrained}
 use Rattle.txn_close.specs.Passing.{Goes}
 use Rattle.txn_close.proofs.Passing.{goes_joined, goes_to_end, goes_from}

@@ -1,12 +1,12 @@
 use Rattle.std.proofs.Common.{Some, ◌≡◌, ℕ, sym, ap, subst, ◌∙◌}
 use Rattle.std.specs.Prelude.{IfSome, OnErr, unwrap_or}
-use Rattle.fixup_record.specs.Protecting.{protected_bytes}
-use Rattle.log_page.specs.declared.restart.Restart.{Restart}
-use Rattle.log_page.specs.Restarts.{restart_spelling}
-use Rattle.log_area.specs.Areas.{number_of, IsOldest, restart_sector, sent_word}
-use Rattle.log_area.specs.Calls.{IsSentOrNot}
-use Rattle.txn_model.specs.Values.{StoreFacts}
-use Rattle.txn_model.specs.Calls.{front_lsn}
+use Rattle.device_blocks.specs.fixup_record.Protecting.{protected_bytes}
+use Rattle.txn_laws.specs.log_page.declared.restart.Restart.{Restart}
+use Rattle.txn_laws.specs.log_page.Restarts.{restart_spelling}
+use Rattle.device_blocks.specs.log_area.Areas.{number_of, IsOldest, restart_sector, sent_word}
+use Rattle.device_blocks.specs.log_area.Calls.{IsSentOrNot}
+use Rattle.txn_laws.specs.txn_model.Values.{StoreFacts}
+use Rattle.txn_laws.specs.txn_model.Calls.{front_lsn}
 use Rattle.txn_state.specs.States.{facts_of}
 use Rattle.txn_laws.specs.Windows.{SimulatesAs, AfterWrite}
 use Rattle.txn_core.specs.Tells.{TellsFront}

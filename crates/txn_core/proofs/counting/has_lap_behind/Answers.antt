@@ -1,6 +1,6 @@
 use Rattle.std.proofs.Common.{◌≡◌, ℕ, ◌+◌, ◌-◌, ◌/◌, ap, ◌∙◌, arith}
 use Rattle.std.proofs.Math.Nat.{div-le_self}
-use Rattle.log_page.specs.Places.{lap_of}
+use Rattle.txn_laws.specs.log_page.Places.{lap_of}
 use Rattle.txn_core.proofs.Laps.{first_lap, few_sealed, behind}
 use Rattle.txn_core.proofs.counting.has_lap_behind.Goals as goal
 

@@ -1,5 +1,5 @@
 use Rattle.std.proofs.Common.{ℕ, sym, ap, subst, ◌∙◌}
-use Rattle.log_area.specs.Areas.{LogAreaOf, next_lsn, named_area, synced_area}
+use Rattle.device_blocks.specs.log_area.Areas.{LogAreaOf, next_lsn, named_area, synced_area}
 use Rattle.txn_laws.specs.Laws.{first_lsn}
 use Rattle.txn_core.specs.Kept.{IsBegun}
 use Rattle.txn_core.specs.Openings.{NamesAndSyncs}

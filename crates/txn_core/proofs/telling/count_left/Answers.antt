@@ -1,9 +1,9 @@
 use Rattle.std.proofs.Common.{ℕ, ◌+◌, List, ap, sym, subst, ◌∙◌}
-use Rattle.disk_model.specs.declared.block.Block.{Block}
-use Rattle.block_pool.specs.Numbers.{block_number, number_after}
-use Rattle.block_pool.specs.Pools.{IsNextFrom, NoneFrom}
-use Rattle.txn_model.specs.declared.mark.Mark.{Mark}
-use Rattle.txn_model.specs.Told.{is_left}
+use Rattle.device_blocks.specs.disk_model.declared.block.Block.{Block}
+use Rattle.txn_laws.specs.block_pool.Numbers.{block_number, number_after}
+use Rattle.txn_laws.specs.block_pool.Pools.{IsNextFrom, NoneFrom}
+use Rattle.txn_laws.specs.txn_model.declared.mark.Mark.{Mark}
+use Rattle.txn_laws.specs.txn_model.Told.{is_left}
 use Rattle.txn_state.specs.States.{facts_of}
 use Rattle.txn_core.proofs.Walking.{LeftBelow, left_held, one_more, no_more, all_counted}
 use Rattle.txn_core.proofs.telling.count_left.Goals as goal

@@ -1,5 +1,5 @@
 use Rattle.std.proofs.Common.{◌-◌, ◌*◌, ◌^◌}
-use Rattle.block_pool.specs.Numbers.{number_after}
+use Rattle.txn_laws.specs.block_pool.Numbers.{number_after}
 use Rattle.txn_state.specs.States.{facts_of}
 use Rattle.txn_core.proofs.Walking.{LeftBelow}
 use Rattle.txn_core.proofs.telling.count_left.Given as goal

@@ -1,9 +1,9 @@
 use Rattle.std.proofs.Common.{List, refl, sym, subst, ◌∙◌}
-use Rattle.disk_model.specs.declared.block.Block.{Block}
-use Rattle.block_pool.specs.Numbers.{number_after}
-use Rattle.block_pool.specs.Pools.{IsNextFrom}
-use Rattle.txn_model.specs.declared.mark.Mark.{Mark}
-use Rattle.txn_model.specs.Calls.{is_ready}
+use Rattle.device_blocks.specs.disk_model.declared.block.Block.{Block}
+use Rattle.txn_laws.specs.block_pool.Numbers.{number_after}
+use Rattle.txn_laws.specs.block_pool.Pools.{IsNextFrom}
+use Rattle.txn_laws.specs.txn_model.declared.mark.Mark.{Mark}
+use Rattle.txn_laws.specs.txn_model.Calls.{is_ready}
 use Rattle.txn_state.specs.States.{facts_of}
 use Rattle.txn_core.proofs.Walking.{ready_held, passed_over}
 use Rattle.txn_core.proofs.telling.lowest_after.Goals as goal

@@ -1,6 +1,6 @@
 use Rattle.std.proofs.Common.{◌-◌, ◌*◌, ◌^◌}
-use Rattle.block_pool.specs.Numbers.{number_after}
-use Rattle.txn_model.specs.Calls.{is_ready}
+use Rattle.txn_laws.specs.block_pool.Numbers.{number_after}
+use Rattle.txn_laws.specs.txn_model.Calls.{is_ready}
 use Rattle.txn_state.specs.States.{facts_of}
 use Rattle.txn_core.proofs.Walking.{NoneBetween}
 use Rattle.txn_core.proofs.telling.lowest_after.Given as goal

@@ -1,6 +1,6 @@
 use Rattle.std.proofs.Common.{Option, sym, subst, ◌∙◌}
-use Rattle.disk_model.specs.declared.block.Block.{Block}
-use Rattle.txn_model.specs.Calls.{is_ready}
+use Rattle.device_blocks.specs.disk_model.declared.block.Block.{Block}
+use Rattle.txn_laws.specs.txn_model.Calls.{is_ready}
 use Rattle.txn_state.specs.States.{facts_of}
 use Rattle.txn_core.specs.Tells.{StaysLowest}
 use Rattle.txn_core.proofs.Walking.{goes_on}

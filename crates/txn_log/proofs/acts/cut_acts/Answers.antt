@@ -1,5 +1,5 @@
 use Rattle.std.proofs.Common.{◌+◌, ◌-◌, refl, arith}
-use Rattle.txn_model.specs.Pieces.{update_of_piece}
+use Rattle.store_pools.specs.txn_model.Pieces.{update_of_piece}
 use Rattle.txn_log.proofs.Cuts.{one_more, no_more}
 use Rattle.txn_log.proofs.acts.cut_acts.Goals as goal
 use Rattle.txn_log.proofs.acts.cut_acts.Goals.{then-left-gt0+in_ok-piece_act+in_ok-push, else-left-gt0}

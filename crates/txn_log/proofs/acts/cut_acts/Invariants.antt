@@ -1,5 +1,5 @@
 use Rattle.std.proofs.Common.{◌≡◌, ◌+◌, ◌-◌, ◌≤◌, ◌++◌, map, length}
-use Rattle.txn_model.specs.Pieces.{cut, update_of_piece}
+use Rattle.store_pools.specs.txn_model.Pieces.{cut, update_of_piece}
 use Rattle.txn_log.proofs.acts.cut_acts.Given as goal
 
 abbrev pub invariant-pieces : goal.invariant-pieces

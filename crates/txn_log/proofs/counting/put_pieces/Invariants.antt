@@ -1,5 +1,5 @@
 use Rattle.std.proofs.Common.{◌≡◌, ℕ, ◌-◌, ◌≤◌, List, ◌++◌, map}
-use Rattle.txn_model.specs.Pieces.{cut}
+use Rattle.store_pools.specs.txn_model.Pieces.{cut}
 use Rattle.txn_log.specs.Counts.{piece_size}
 use Rattle.txn_log.specs.Counting.{counted}
 use Rattle.txn_log.proofs.counting.put_pieces.Given as goal

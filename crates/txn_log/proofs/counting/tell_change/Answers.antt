@@ -1,7 +1,7 @@
 use Rattle.std.proofs.Common.{Bool, true, cond, List, Option, Some, ap, ◌∙◌}
-use Rattle.disk_model.specs.declared.block.Block.{Block}
-use Rattle.disk_model.specs.Sectors.{same_block}
-use Rattle.block_pool.specs.Pools.{held}
+use Rattle.store_pools.specs.disk_model.declared.block.Block.{Block}
+use Rattle.store_pools.specs.disk_model.Sectors.{same_block}
+use Rattle.store_pools.specs.block_pool.Pools.{held}
 use Rattle.store_pools.proofs.Pools.{held_with}
 use Rattle.txn_log.proofs.Told.{on_ok}
 use Rattle.txn_log.proofs.counting.tell_change.Goals as goal

@@ -1,5 +1,5 @@
 use Rattle.std.proofs.Common.{◌+◌, drop, ◌∙◌, arith}
-use Rattle.txn_model.specs.Calls.{rivals_of}
+use Rattle.store_pools.specs.txn_model.Calls.{rivals_of}
 use Rattle.txn_log.proofs.Told.{rival_told, item_and_rest}
 use Rattle.txn_log.proofs.counting.tell_rivals.Goals as goal
 

@@ -1,7 +1,7 @@
 use Rattle.std.proofs.Common.{◌≡◌, drop}
-use Rattle.disk_model.specs.declared.block.Block.{Block}
-use Rattle.block_pool.specs.Pools.{held}
-use Rattle.txn_model.specs.Calls.{rivals_of}
+use Rattle.store_pools.specs.disk_model.declared.block.Block.{Block}
+use Rattle.store_pools.specs.block_pool.Pools.{held}
+use Rattle.store_pools.specs.txn_model.Calls.{rivals_of}
 use Rattle.txn_log.proofs.Told.{left_of}
 use Rattle.txn_log.proofs.counting.tell_rivals.Given as goal
 

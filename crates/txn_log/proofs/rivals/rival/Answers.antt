@@ -1,6 +1,6 @@
 use Rattle.std.proofs.Common.{ap, sym, ◌∙◌, get_or}
-use Rattle.disk_model.specs.declared.block.BlockKind.{BlockKind}
-use Rattle.txn_model.specs.Calls.{rivals_of}
+use Rattle.store_pools.specs.disk_model.declared.block.BlockKind.{BlockKind}
+use Rattle.store_pools.specs.txn_model.Calls.{rivals_of}
 use Rattle.txn_log.proofs.rivals.rival.Goals as goal
 
 pub returns-in-Index : goal.returns-in-Index

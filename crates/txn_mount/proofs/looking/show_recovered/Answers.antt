@@ -1,5 +1,5 @@
 use Rattle.std.proofs.Common.{rules, ◌∙◌, arith}
-use Rattle.device_view.proofs.Keeping.{device_failed, device_counts}
+use Rattle.log_recovery.proofs.device_view.Keeping.{device_failed, device_counts}
 use Rattle.txn_core.specs.Changes.{view_cause}
 use Rattle.txn_mount.proofs.looking.show_recovered.Goals as goal
 

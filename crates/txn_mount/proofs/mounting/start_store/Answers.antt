@@ -1,4 +1,4 @@
-use Rattle.txn_state.specs.States.{facts_of}
+use Rattle.txn_core.specs.txn_state.States.{facts_of}
 use Rattle.txn_mount.proofs.Behind.{starts_as}
 use Rattle.txn_mount.proofs.mounting.start_store.Goals as goal
 

@@ -1,6 +1,6 @@
 use Rattle.std.proofs.Common.{rules, ◌∙◌, arith}
-use Rattle.device_view.proofs.Keeping.{device_failed, device_counts}
-use Rattle.log_reading.specs.Views.{recovery_cause}
+use Rattle.log_recovery.proofs.device_view.Keeping.{device_failed, device_counts}
+use Rattle.log_recovery.specs.log_reading.Views.{recovery_cause}
 use Rattle.txn_mount.proofs.read.read_log.Goals as goal
 
 pub returns-clause-fault : goal.returns-clause-fault

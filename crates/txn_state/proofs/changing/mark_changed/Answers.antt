@@ -1,6 +1,6 @@
 use Rattle.std.proofs.Common.{ap, ◌∙◌}
-use Rattle.store_pools.specs.Pools.{marks_of}
-use Rattle.txn_model.specs.Calls.{changed_mark}
+use Rattle.txn_log.specs.store_pools.Pools.{marks_of}
+use Rattle.txn_log.specs.txn_model.Calls.{changed_mark}
 use Rattle.txn_state.proofs.Facts.{out_marks}
 use Rattle.txn_state.proofs.changing.mark_changed.Goals as goal
 

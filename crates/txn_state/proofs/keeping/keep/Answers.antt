@@ -1,6 +1,6 @@
 use Rattle.std.proofs.Common.{ap, ◌∙◌}
 use Rattle.std.specs.Prelude.{unwrap_or}
-use Rattle.store_pools.specs.Pools.{body_of_kept, bodies_of}
+use Rattle.txn_log.specs.store_pools.Pools.{body_of_kept, bodies_of}
 use Rattle.txn_state.proofs.Turning.{put_bodies, taken_back}
 use Rattle.txn_state.proofs.keeping.keep.Goals as goal
 

@@ -1,8 +1,8 @@
 use Rattle.std.proofs.Common.{◌≡◌, Option, ap, sym, ◌∙◌}
 use Rattle.std.specs.Prelude.{unwrap_or}
-use Rattle.store_pools.specs.Pools.{marks_of}
-use Rattle.txn_model.specs.declared.mark.Mark.{Mark}
-use Rattle.txn_model.specs.Values.{no_mark}
+use Rattle.txn_log.specs.store_pools.Pools.{marks_of}
+use Rattle.txn_log.specs.txn_model.declared.mark.Mark.{Mark}
+use Rattle.txn_log.specs.txn_model.Values.{no_mark}
 use Rattle.txn_state.proofs.Turning.{turned_marks, turned_none}
 use Rattle.txn_state.proofs.marks.turn_at.Goals as goal
 

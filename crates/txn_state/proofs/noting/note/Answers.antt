@@ -1,5 +1,5 @@
 use Rattle.std.proofs.Common.{ap, ◌∙◌}
-use Rattle.store_pools.specs.Pools.{marks_of}
+use Rattle.txn_log.specs.store_pools.Pools.{marks_of}
 use Rattle.txn_state.proofs.Turning.{noted_marks}
 use Rattle.txn_state.proofs.noting.note.Goals as goal
 

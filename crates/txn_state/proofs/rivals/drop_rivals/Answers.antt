@@ -1,6 +1,6 @@
 use Rattle.std.proofs.Common.{ap, subst, sym, ◌∙◌, ◌<◌, ℕ, arith}
-use Rattle.store_pools.specs.Pools.{bodies_of}
-use Rattle.txn_model.specs.Calls.{rivals_of}
+use Rattle.txn_log.specs.store_pools.Pools.{bodies_of}
+use Rattle.txn_log.specs.txn_model.Calls.{rivals_of}
 use Rattle.txn_state.proofs.Turning.{taken_bodies, drop_step, drop_end}
 use Rattle.txn_state.proofs.rivals.drop_rivals.Goals as goal
 

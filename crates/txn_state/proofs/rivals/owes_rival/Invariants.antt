@@ -1,8 +1,8 @@
 use Rattle.std.proofs.Common.{◌≡◌, drop}
 use Rattle.std.specs.List.{list_any}
-use Rattle.disk_model.specs.declared.block.Block.{Block}
-use Rattle.store_pools.specs.Pools.{marks_of}
-use Rattle.txn_model.specs.Calls.{rivals_of}
+use Rattle.txn_log.specs.disk_model.declared.block.Block.{Block}
+use Rattle.txn_log.specs.store_pools.Pools.{marks_of}
+use Rattle.txn_log.specs.txn_model.Calls.{rivals_of}
 use Rattle.txn_state.proofs.rivals.owes_rival.Given as goal
 
 -- what is told of the rivals that are left is told of all

@@ -1,6 +1,6 @@
 use Rattle.std.proofs.Common.{◌≡◌, drop}
-use Rattle.store_pools.specs.Pools.{marks_of}
-use Rattle.txn_model.specs.Calls.{rivals_of}
+use Rattle.txn_log.specs.store_pools.Pools.{marks_of}
+use Rattle.txn_log.specs.txn_model.Calls.{rivals_of}
 use Rattle.txn_state.specs.Turning.{turned_all}
 use Rattle.txn_state.proofs.rivals.turn_rivals.Given as goal
 

@@ -1,5 +1,5 @@
 use Rattle.std.proofs.Common.{◌≡◌, ◌++◌, take}
-use Rattle.record_model.specs.Attributes.{unit_bytes}
+use Rattle.journal_model.specs.record_model.Attributes.{unit_bytes}
 use Rattle.usn_record.proofs.writing.push_units.Given as goal
 
 abbrev pub invariant-loop-unit : goal.invariant-loop-unit

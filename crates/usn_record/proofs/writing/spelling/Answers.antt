@@ -1,5 +1,5 @@
 use Rattle.std.proofs.Common.{ap, ◌∙◌, ◌++◌, length, List, ℕ, arith}
-use Rattle.record_model.specs.Attributes.{unit_bytes}
+use Rattle.journal_model.specs.record_model.Attributes.{unit_bytes}
 use Rattle.usn_record.proofs.Appended.{record_pushed}
 use Rattle.usn_record.proofs.writing.spelling.Goals as goal
 

@@ -1,7 +1,7 @@
 use Rattle.std.proofs.Common.{ap, sym, ◌∙◌, Option, Some}
 use Rattle.host_base.specs.declared.file_ref.FileRef.{FileRef}
-use Rattle.volume_map.specs.declared.head.Head.{Head}
-use Rattle.volume_map.specs.Heads.{no_head}
+use Rattle.volume_lookup.specs.volume_map.declared.head.Head.{Head}
+use Rattle.volume_lookup.specs.volume_map.Heads.{no_head}
 use Rattle.volume_census.proofs.Sparing.{least_there, least_none}
 use Rattle.volume_census.proofs.spare.least_spare.Goals as goal
 

@@ -1,6 +1,6 @@
 use Rattle.file_tree.specs.declared.tree.Tree.{Tree}
 use Rattle.host_base.specs.Answers.{GivesOrFails}
-use Rattle.volume_map.specs.Maps.{volume_in}
+use Rattle.volume_tree.specs.volume_map.Maps.{volume_in}
 use Rattle.volume_state.specs.Trees.{checked}
 use Rattle.volume_check.specs.Errors.{check_cause}
 use Rattle.volume_check.proofs.Chain.{known_parts}

@@ -1,4 +1,4 @@
-use Rattle.volume_map.specs.Maps.{volume_in}
+use Rattle.volume_tree.specs.volume_map.Maps.{volume_in}
 use Rattle.volume_check.specs.Parts.{AreParts}
 use Rattle.volume_check.proofs.Chain.{known_breaks, known_goes_on}
 use Rattle.volume_check.proofs.checking.check_ordered.Goals as goal

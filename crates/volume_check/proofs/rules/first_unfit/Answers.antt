@@ -1,5 +1,5 @@
 use Rattle.std.proofs.Common.{sym, ◌∙◌}
-use Rattle.volume_map.specs.Maps.{volume_in}
+use Rattle.volume_tree.specs.volume_map.Maps.{volume_in}
 use Rattle.volume_check.proofs.Steps.{in_place}
 use Rattle.volume_check.proofs.rules.first_unfit.Goals as goal
 

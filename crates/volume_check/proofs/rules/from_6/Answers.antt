@@ -1,4 +1,4 @@
-use Rattle.volume_map.specs.Maps.{volume_in}
+use Rattle.volume_tree.specs.volume_map.Maps.{volume_in}
 use Rattle.volume_state.specs.Rules.{broken_6}
 use Rattle.volume_check.specs.Steps.{from_6, from_7}
 use Rattle.volume_check.proofs.Steps.{stops, goes_on, six_is}

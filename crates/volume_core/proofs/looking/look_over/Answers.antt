@@ -1,7 +1,7 @@
 use Rattle.std.proofs.Common.{rules, ◌∙◌}
-use Rattle.map_change.specs.Parts.{live_parts}
-use Rattle.volume_lookup.specs.Known.{known_tree}
-use Rattle.txn_core.specs.Views.{present_content}
+use Rattle.working_volume.specs.map_change.Parts.{live_parts}
+use Rattle.working_volume.specs.volume_lookup.Known.{known_tree}
+use Rattle.working_volume.specs.txn_core.Views.{present_content}
 use Rattle.volume_core.proofs.Counting.{look_counts}
 use Rattle.volume_core.proofs.looking.look_over.Goals as goal
 

@@ -2,7 +2,7 @@ use Rattle.std.proofs.Common.{◌≡◌, ◌≤◌, ◌-◌, suc, if◌then◌el
 use Rattle.std.specs.Prelude.{IfSome}
 use Rattle.state_model.specs.Streams.{stream_bytes, real_size}
 use Rattle.volume_map.specs.Lists.{ReadUpTo}
-use Rattle.block_view.specs.Views.{KeepsView}
+use Rattle.stream_map.specs.block_view.Views.{KeepsView}
 use Rattle.volume_map.proofs.lists.read_list.Given as goal
 
 abbrev pub invariant-loop-more : goal.invariant-loop-more

@@ -2,7 +2,7 @@ use Rattle.std.proofs.Common.{◌≡◌, length, map}
 use Rattle.std.specs.Prelude.{IfSome}
 use Rattle.state_model.specs.Loads.{table_in}
 use Rattle.volume_map.specs.Lists.{read_of, lists_of}
-use Rattle.block_view.specs.Views.{KeepsView}
+use Rattle.stream_map.specs.block_view.Views.{KeepsView}
 use Rattle.volume_map.proofs.lists.read_lists.Given as goal
 
 abbrev pub invariant-loop-number : goal.invariant-loop-number

@@ -2,7 +2,7 @@ use Rattle.std.specs.Prelude.{IfSome, ◌≡◌, length}
 use Rattle.state_model.specs.Loads.{table_slot}
 use Rattle.volume_map.specs.Heads.{table_heads}
 use Rattle.volume_map.specs.Stages.{WalkedBelow}
-use Rattle.block_view.specs.Views.{KeepsView}
+use Rattle.stream_map.specs.block_view.Views.{KeepsView}
 use Rattle.volume_map.proofs.walk.walk_table.Given as goal
 
 abbrev pub invariant-loop-number : goal.invariant-loop-number

@@ -1,6 +1,6 @@
 use Rattle.std.proofs.Common.{ℕ, arith}
-use Rattle.volume_model.specs.Volumes.{file_in, count_of}
-use Rattle.volume_map.specs.Maps.{volume_in}
+use Rattle.volume_state.specs.volume_model.Volumes.{file_in, count_of}
+use Rattle.image_read.specs.volume_map.Maps.{volume_in}
 use Rattle.volume_mount.specs.Boot.{file_takes_first, is_taken}
 use Rattle.volume_mount.proofs.Booting.{any_passed}
 use Rattle.volume_mount.proofs.boot.is_taken.Goals as goal

@@ -1,7 +1,7 @@
 use Rattle.std.proofs.Common.{ℕ, List}
 use Rattle.std.proofs.lemmas.Result.{err_from_is_err_and}
-use Rattle.volume_map.specs.Maps.{volume_in}
-use Rattle.image_open.proofs.Steps.{fails_first}
+use Rattle.image_read.specs.volume_map.Maps.{volume_in}
+use Rattle.image_read.proofs.image_open.Steps.{fails_first}
 use Rattle.image_read.specs.Checks.{volume_on}
 use Rattle.volume_mount.specs.declared.loading.LoadedVolume.{LoadedVolume}
 use Rattle.volume_shadows.specs.Live.{least_lsn}

@@ -1,10 +1,10 @@
 use Rattle.std.proofs.Common.{List, Bool, subst}
 use Rattle.std.proofs.lemmas.Result.{err_from_is_err_and}
 use Rattle.host_base.specs.Answers.{Gives}
-use Rattle.volume_model.specs.Volumes.{Volume, cluster_bits}
-use Rattle.volume_map.specs.Maps.{volume_in, IsMapOf}
-use Rattle.image_open.specs.Errors.{scan_cause}
-use Rattle.image_open.proofs.Steps.{fails_first}
+use Rattle.volume_state.specs.volume_model.Volumes.{Volume, cluster_bits}
+use Rattle.image_read.specs.volume_map.Maps.{volume_in, IsMapOf}
+use Rattle.image_read.specs.image_open.Errors.{scan_cause}
+use Rattle.image_read.proofs.image_open.Steps.{fails_first}
 use Rattle.volume_shadows.specs.Live.{least_lsn}
 use Rattle.volume_mount.specs.Mounts.{ruled, placed, settled}
 use Rattle.volume_mount.proofs.Chained.{then_gives_by}

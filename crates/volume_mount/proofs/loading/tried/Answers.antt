@@ -1,8 +1,8 @@
 use Rattle.std.proofs.Common.{ℕ, List}
 use Rattle.std.proofs.lemmas.Result.{err_from_is_err_and}
-use Rattle.volume_model.specs.Volumes.{upper_of}
-use Rattle.volume_map.specs.Maps.{volume_in}
-use Rattle.image_open.proofs.Steps.{fails_at_once, goes_on_at_once}
+use Rattle.volume_state.specs.volume_model.Volumes.{upper_of}
+use Rattle.image_read.specs.volume_map.Maps.{volume_in}
+use Rattle.image_read.proofs.image_open.Steps.{fails_at_once, goes_on_at_once}
 use Rattle.image_read.specs.Checks.{has_version}
 use Rattle.volume_shadows.specs.Live.{least_lsn}
 use Rattle.volume_mount.specs.Mounts.{unjournaled, tried}

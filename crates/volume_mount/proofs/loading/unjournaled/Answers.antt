@@ -1,6 +1,6 @@
 use Rattle.std.proofs.lemmas.Result.{err_from_is_err_and}
-use Rattle.volume_map.specs.Maps.{volume_in}
-use Rattle.image_open.proofs.Steps.{fails_at_once, goes_on_at_once}
+use Rattle.image_read.specs.volume_map.Maps.{volume_in}
+use Rattle.image_read.proofs.image_open.Steps.{fails_at_once, goes_on_at_once}
 use Rattle.volume_shadows.specs.Live.{least_lsn}
 use Rattle.volume_mount.specs.Mounts.{has_no_journal, paged, unjournaled}
 use Rattle.volume_mount.proofs.loading.unjournaled.Goals as goal

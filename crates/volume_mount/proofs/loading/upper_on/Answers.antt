@@ -1,5 +1,5 @@
 use Rattle.std.proofs.lemmas.Result.{err_from_is_err_and}
-use Rattle.volume_map.specs.Maps.{volume_in}
+use Rattle.image_read.specs.volume_map.Maps.{volume_in}
 use Rattle.volume_mount.proofs.Tabling.{table_fails, table_read}
 use Rattle.volume_mount.proofs.loading.upper_on.Goals as goal
 

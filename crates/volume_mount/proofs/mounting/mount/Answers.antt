@@ -1,5 +1,5 @@
 use Rattle.std.proofs.Common.{◌∙◌, sym, arith}
-use Rattle.image_open.proofs.Disks.{no_sectors}
+use Rattle.image_read.proofs.image_open.Disks.{no_sectors}
 use Rattle.volume_mount.specs.Mounts.{mounted_in, mounted_of}
 use Rattle.volume_mount.proofs.Sectors.{some_mounts}
 use Rattle.volume_mount.proofs.mounting.mount.Goals as goal

@@ -1,6 +1,6 @@
 use Rattle.std.proofs.Common.{rules, ◌∙◌, arith}
-use Rattle.device_view.proofs.Keeping.{device_failed, device_counts}
-use Rattle.image_open.specs.Errors.{scan_cause}
+use Rattle.image_read.proofs.device_view.Keeping.{device_failed, device_counts}
+use Rattle.image_read.specs.image_open.Errors.{scan_cause}
 use Rattle.volume_mount.proofs.mounting.mount_sectors.Goals as goal
 
 pub returns-clause-fault : goal.returns-clause-fault

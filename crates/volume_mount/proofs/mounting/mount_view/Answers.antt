@@ -1,6 +1,6 @@
 use Rattle.std.proofs.lemmas.Result.{err_from_is_err_and}
-use Rattle.image_open.specs.Writing.{OpenedToWrite, opened_to_write_in}
-use Rattle.image_open.proofs.Steps.{fails_first}
+use Rattle.image_read.specs.image_open.Writing.{OpenedToWrite, opened_to_write_in}
+use Rattle.image_read.proofs.image_open.Steps.{fails_first}
 use Rattle.volume_mount.specs.Mounts.{MountedVolume, mounted_by, mounted_in}
 use Rattle.volume_mount.proofs.Opened.{mounts_on}
 use Rattle.volume_mount.proofs.mounting.mount_view.Goals as goal

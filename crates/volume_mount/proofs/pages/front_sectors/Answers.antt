@@ -1,5 +1,5 @@
 use Rattle.std.proofs.Common.{ℕ, List, subst}
-use Rattle.log_page.specs.declared.places.Extent.{Extent}
+use Rattle.image_read.specs.log_page.declared.places.Extent.{Extent}
 use Rattle.volume_mount.specs.Fronts.{LieInFront}
 use Rattle.volume_mount.proofs.Fronting.{front_is}
 use Rattle.volume_mount.proofs.pages.front_sectors.Goals as goal

@@ -1,5 +1,5 @@
 use Rattle.std.proofs.Common.{◌+◌, ◌-◌, ◌≤◌, drop, get_or, arith}
-use Rattle.log_page.specs.declared.places.Extent.{Extent}
+use Rattle.image_read.specs.log_page.declared.places.Extent.{Extent}
 use Rattle.volume_mount.proofs.Fronting.{taken_run, with_run, ends_here, ends_behind, all_run}
 use Rattle.volume_mount.proofs.pages.lying_in_front.Goals as goal
 

@@ -1,5 +1,5 @@
 use Rattle.std.proofs.Common.{sym, ◌∙◌, arith}
-use Rattle.record_model.specs.declared.attribute.Attr.{Attr}
+use Rattle.state_model.specs.record_model.declared.attribute.Attr.{Attr}
 use Rattle.volume_shadows.specs.Least.{least_of}
 use Rattle.volume_shadows.specs.Live.{attr_blocks, least_lsn}
 use Rattle.volume_shadows.proofs.Leasts.{least_step, least_end, least_again, least_flat}

@@ -1,4 +1,4 @@
-use Rattle.map_change.specs.Parts.{live_parts}
+use Rattle.mounted_states.specs.map_change.Parts.{live_parts}
 use Rattle.volume_start.proofs.Answering.{ok_more, starts_behind, anywhere_behind}
 use Rattle.volume_start.proofs.starting.start.Goals as goal
 

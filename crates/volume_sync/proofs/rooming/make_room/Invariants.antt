@@ -1,8 +1,8 @@
 use Rattle.std.proofs.Common.{◌≡◌, ◌↔◌, true, length}
 use Rattle.flush_policy.specs.Steps.{to_do}
 use Rattle.txn_state.specs.States.{facts_of}
-use Rattle.txn_core.specs.Leading.{dirty_blocks}
-use Rattle.txn_core.specs.Turns.{HasNext}
+use Rattle.volume_core.specs.txn_core.Leading.{dirty_blocks}
+use Rattle.volume_core.specs.txn_core.Turns.{HasNext}
 use Rattle.volume_sync.specs.Runs.{RunsOn}
 use Rattle.volume_sync.specs.Rooms.{IsTelling}
 use Rattle.volume_sync.proofs.rooming.make_room.Given as goal

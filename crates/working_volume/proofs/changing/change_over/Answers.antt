@@ -1,8 +1,8 @@
 use Rattle.std.proofs.Common.{subst}
-use Rattle.map_change.specs.Parts.{live_parts}
+use Rattle.plans_lead.specs.map_change.Parts.{live_parts}
 use Rattle.tree_model.specs.declared.reply.Reply.TheVariants as replies
-use Rattle.txn_state.specs.States.{StateOf, facts_of, IsStore}
-use Rattle.txn_core.specs.Views.{present_content}
+use Rattle.plans_lead.specs.txn_state.States.{StateOf, facts_of, IsStore}
+use Rattle.plans_lead.specs.txn_core.Views.{present_content}
 use Rattle.working_volume.proofs.Taking.{failed_step, memory_step}
 use Rattle.working_volume.proofs.Putting.{since, does, unplanned_reply, unplanned_unknown}
 use Rattle.working_volume.proofs.changing.change_over.Goals as goal

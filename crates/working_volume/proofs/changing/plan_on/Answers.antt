@@ -1,6 +1,6 @@
-use Rattle.map_change.specs.Parts.{live_parts}
-use Rattle.txn_state.specs.States.{facts_of}
-use Rattle.txn_core.specs.Views.{present_content}
+use Rattle.plans_lead.specs.map_change.Parts.{live_parts}
+use Rattle.plans_lead.specs.txn_state.States.{facts_of}
+use Rattle.plans_lead.specs.txn_core.Views.{present_content}
 use Rattle.working_volume.proofs.Taking.{plans_here, never_unknown, plan_taken}
 use Rattle.working_volume.proofs.changing.plan_on.Goals as goal
 

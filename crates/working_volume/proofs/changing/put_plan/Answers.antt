@@ -2,9 +2,9 @@ use Rattle.std.proofs.Common.{subst, List, length, ◌<◌, sym, ◌∙◌, refl
 use Rattle.std.proofs.lemmas.Bool.{eqb-true}
 use Rattle.std.proofs.lemmas.List.{nil_from_length}
 use Rattle.disk_model.specs.declared.block.Change.{Change}
-use Rattle.map_change.specs.Parts.{live_parts}
-use Rattle.txn_state.specs.States.{StateOf, facts_of, IsStore}
-use Rattle.state_store.proofs.Sparing.{some_length}
+use Rattle.plans_lead.specs.map_change.Parts.{live_parts}
+use Rattle.plans_lead.specs.txn_state.States.{StateOf, facts_of, IsStore}
+use Rattle.put_checks.proofs.state_store.Sparing.{some_length}
 use Rattle.working_volume.proofs.Putting.{none_to_put}
 use Rattle.working_volume.proofs.changing.put_plan.Goals as goal
 

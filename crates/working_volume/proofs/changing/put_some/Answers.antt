@@ -1,6 +1,6 @@
 use Rattle.std.proofs.Common.{subst, sym, ◌∙◌}
-use Rattle.map_change.specs.Parts.{live_parts}
-use Rattle.txn_state.specs.States.{StateOf, facts_of, IsStore}
+use Rattle.plans_lead.specs.map_change.Parts.{live_parts}
+use Rattle.plans_lead.specs.txn_state.States.{StateOf, facts_of, IsStore}
 use Rattle.put_checks.specs.Checks.{may_put}
 use Rattle.working_volume.proofs.Putting.{refused}
 use Rattle.working_volume.proofs.changing.put_some.Goals as goal

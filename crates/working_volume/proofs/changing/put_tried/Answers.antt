@@ -1,4 +1,4 @@
-use Rattle.map_change.specs.Parts.{live_parts}
+use Rattle.plans_lead.specs.map_change.Parts.{live_parts}
 use Rattle.working_volume.proofs.Putting.{tried}
 use Rattle.working_volume.proofs.changing.put_tried.Goals as goal
 

@@ -1,6 +1,6 @@
 use Rattle.std.proofs.Common.{rules, ◌∙◌, arith}
 use Rattle.change_plan.specs.Faults.{plan_cause}
-use Rattle.state_store.proofs.Reading.{store_failed, store_counts}
+use Rattle.put_checks.proofs.state_store.Reading.{store_failed, store_counts}
 use Rattle.working_volume.proofs.planning.plan_over.Goals as goal
 
 pub returns-clause-fault : goal.returns-clause-fault

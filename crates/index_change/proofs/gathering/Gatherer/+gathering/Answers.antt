@@ -1,7 +1,7 @@
 use Rattle.std.proofs.Common.{◌∙◌, sym}
-use Rattle.disk_model.specs.Content.{Content}
-use Rattle.index_model.specs.Indexes.{node_of_block, entry_link}
-use Rattle.index_model.specs.Walks.{side_of}
+use Rattle.record_model.specs.disk_model.Content.{Content}
+use Rattle.index_tree.specs.index_model.Indexes.{node_of_block, entry_link}
+use Rattle.index_tree.specs.index_model.Walks.{side_of}
 use Rattle.index_tree.specs.Places.{place_of}
 use Rattle.index_change.proofs.Gathered.{onward, stay_both, beside_held, entry_held, one_held, last_held, whole_held}
 use Rattle.index_change.proofs.Insertions.{adds_both, adds_node}

@@ -1,6 +1,6 @@
 use Rattle.std.proofs.Common.{◌≡◌, ◌+◌, ◌*◌, drop}
 use Rattle.std.specs.Prelude.{IfSome}
-use Rattle.index_model.specs.Indexes.{node_of_block}
+use Rattle.index_tree.specs.index_model.Indexes.{node_of_block}
 use Rattle.index_change.specs.Holding.{HoldsNodesOf, StayHeld}
 use Rattle.index_tree.specs.Places.{place_of}
 use Rattle.index_change.proofs.Gathered.{HeldOrLeft}

@@ -1,8 +1,8 @@
 use Rattle.std.proofs.Common.{◌≡◌, Some}
 use Rattle.std.specs.Ordering.{nat_cmp}
 use Rattle.std.specs.BTreeMap.{get}
-use Rattle.disk_model.specs.Content.{Content}
-use Rattle.index_model.specs.Indexes.{node_of_block}
+use Rattle.record_model.specs.disk_model.Content.{Content}
+use Rattle.index_tree.specs.index_model.Indexes.{node_of_block}
 use Rattle.index_tree.specs.Places.{place_of}
 use Rattle.index_change.proofs.Insertions.{read_known, read_quiet}
 use Rattle.index_change.proofs.holding.HeldNodesNodes.read.Goals as goal

@@ -1,9 +1,9 @@
 use Rattle.std.proofs.Common.{ℕ, ◌≤◌, List, [], length, ap, ◌∙◌, subst}
 use Rattle.std.specs.Prelude.{IfSome, IfOk}
-use Rattle.disk_model.specs.Content.{Content}
+use Rattle.record_model.specs.disk_model.Content.{Content}
 use Rattle.record_model.specs.declared.entry.Entry.{Entry as Raw}
-use Rattle.index_model.specs.declared.key.Key.{Key}
-use Rattle.index_model.specs.Indexes.{node_of_block}
+use Rattle.index_tree.specs.index_model.declared.key.Key.{Key}
+use Rattle.index_tree.specs.index_model.Indexes.{node_of_block}
 use Rattle.index_plan.specs.declared.plan.Rooted.{Rooted}
 use Rattle.index_plan.specs.Laws.{TakesFew}
 use Rattle.index_plan.specs.Lists.{own_key}

@@ -3,8 +3,8 @@ use Rattle.index_plan.specs.Lists.{own_key}
 use Rattle.index_tree.specs.Places.{place_of}
 use Rattle.index_change.proofs.Insertions.{judged_known, by_height}
 use Rattle.index_change.proofs.Puts.{puts_known, deep_known}
-use Rattle.disk_model.specs.Content.{Content}
-use Rattle.index_model.specs.Walks.{walk_of}
+use Rattle.record_model.specs.disk_model.Content.{Content}
+use Rattle.index_tree.specs.index_model.Walks.{walk_of}
 use Rattle.index_change.specs.declared.nodes_plan.NodesPlan.{NodesPlan}
 use Rattle.index_change.proofs.Searches.{deep_walked}
 use Rattle.index_change.proofs.inserting.Insertion.with_level.Goals as goal

@@ -1,8 +1,8 @@
 use Rattle.std.proofs.Common.{◌≡◌, ℕ, ◌≤◌, List, ap, ◌∙◌}
 use Rattle.std.specs.Prelude.{IfSome, IfOk, IfErr}
-use Rattle.disk_model.specs.Content.{Content}
+use Rattle.record_model.specs.disk_model.Content.{Content}
 use Rattle.record_model.specs.declared.entry.Entry.{Entry as Raw}
-use Rattle.index_model.specs.Indexes.{node_of_block}
+use Rattle.index_tree.specs.index_model.Indexes.{node_of_block}
 use Rattle.index_plan.specs.declared.fault.PlanFault.{PlanFault}
 use Rattle.index_plan.specs.Faults.{OnDeep}
 use Rattle.index_plan.specs.Laws.{NeedsLevelWithout, TakesFewOut}

@@ -1,8 +1,8 @@
 use Rattle.index_tree.specs.Places.{place_of}
 use Rattle.index_change.proofs.Insertions.{by_most}
 use Rattle.index_change.proofs.Removings.{takes_known}
-use Rattle.disk_model.specs.Content.{Content}
-use Rattle.index_model.specs.Walks.{walk_of}
+use Rattle.record_model.specs.disk_model.Content.{Content}
+use Rattle.index_tree.specs.index_model.Walks.{walk_of}
 use Rattle.index_change.proofs.Searches.{view_walked}
 use Rattle.index_change.proofs.removing.Removal.take_out.Goals as goal
 

@@ -2,8 +2,8 @@ use Rattle.std.proofs.Common.{◌∙◌}
 use Rattle.index_tree.specs.Places.{place_of}
 use Rattle.index_change.proofs.Insertions.{judged_known, by_height}
 use Rattle.index_change.proofs.Removings.{takes_known, deep_known}
-use Rattle.disk_model.specs.Content.{Content}
-use Rattle.index_model.specs.Walks.{walk_of}
+use Rattle.record_model.specs.disk_model.Content.{Content}
+use Rattle.index_tree.specs.index_model.Walks.{walk_of}
 use Rattle.index_change.specs.declared.plan.DirPlan.{DirPlan}
 use Rattle.index_change.proofs.Searches.{deep_walked, view_walked}
 use Rattle.index_change.proofs.removing.Removal.with_level.Goals as goal

@@ -1,6 +1,6 @@
 use Rattle.std.proofs.Common.{◌∙◌, ap, arith, List, Some}
 use Rattle.std.specs.Prelude.{slice_get}
-use Rattle.disk_model.specs.declared.block.Block.{Block}
+use Rattle.stream_map.specs.disk_model.declared.block.Block.{Block}
 use Rattle.index_tree.proofs.Listed.{block_listed, block_added}
 use Rattle.index_tree.proofs.blocks.BlockList.get.Goals as goal
 

@@ -1,5 +1,5 @@
 use Rattle.std.proofs.Common.{arith, ap, length, List}
-use Rattle.disk_model.specs.declared.block.Block.{Block}
+use Rattle.stream_map.specs.disk_model.declared.block.Block.{Block}
 use Rattle.index_tree.proofs.Listed.{length_of_all}
 use Rattle.index_tree.proofs.blocks.BlockList.len.Goals as goal
 

@@ -1,6 +1,6 @@
 use Rattle.std.proofs.Common.{◌∙◌, ◌++◌, true, ap, sym, subst, refl}
-use Rattle.state_model.specs.declared.stream.Extents.{Extents}
-use Rattle.state_model.specs.Loads.{no_extents}
+use Rattle.stream_map.specs.state_model.declared.stream.Extents.{Extents}
+use Rattle.stream_map.specs.state_model.Loads.{no_extents}
 use Rattle.volume_model.specs.Indexes.{blocks_of}
 use Rattle.index_tree.specs.Allocations.{IsCounted}
 use Rattle.index_tree.proofs.Listed.{nothing_counted, none_listed}

@@ -1,6 +1,6 @@
 use Rattle.std.proofs.Common.{◌∙◌}
 use Rattle.std.proofs.lemmas.Result.{err_from_is_err_and}
-use Rattle.disk_model.specs.Content.{Content}
+use Rattle.stream_map.specs.disk_model.Content.{Content}
 use Rattle.index_model.specs.Walks.{below, kid_met, named_event}
 use Rattle.index_model.specs.Indexes.{node_of_block, entry_link}
 use Rattle.index_tree.specs.Places.{place_of}

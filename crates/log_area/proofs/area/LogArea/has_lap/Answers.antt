@@ -1,6 +1,6 @@
 use Rattle.std.proofs.Common.{ap, subst, arith}
 use Rattle.log_area.specs.Areas.{LogAreaOf, IsLogArea}
-use Rattle.log_page.specs.Places.{sequence_bits}
+use Rattle.log_reading.specs.log_page.Places.{sequence_bits}
 use Rattle.std.proofs.Common.{◌∙◌}
 use Rattle.log_area.proofs.Numbering.{next_sum, lap_limit, lap_tested}
 use Rattle.log_area.proofs.area.LogArea.has_lap.Goals as goal

@@ -1,5 +1,5 @@
 use Rattle.std.proofs.Common.{ℕ, ◌∙◌, ◌-◌, ◌/◌, ap, ap₂, subst, refl, arith}
-use Rattle.log_page.specs.Places.{lap_of, offset_of}
+use Rattle.log_reading.specs.log_page.Places.{lap_of, offset_of}
 use Rattle.log_area.specs.Areas.{LogAreaOf, IsLogArea}
 use Rattle.log_area.proofs.Numbering.{number_fits}
 use Rattle.log_area.proofs.area.LogArea.number_of.Goals as goal

@@ -1,6 +1,6 @@
 use Rattle.std.proofs.Common.{◌∙◌, ap}
 use Rattle.std.specs.Prelude.{length}
-use Rattle.log_model.proofs.EntrySpelled.{length-zeros}
+use Rattle.log_reading.proofs.log_model.EntrySpelled.{length-zeros}
 use Rattle.log_area.proofs.Keeping.{start_keeps}
 use Rattle.log_area.proofs.area.LogArea.start.Goals as goal
 

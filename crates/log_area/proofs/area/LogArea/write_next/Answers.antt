@@ -1,5 +1,5 @@
 use Rattle.std.proofs.Common.{ℕ, Option, Ok, ◌∙◌, ap, subst}
-use Rattle.fixup_record.specs.Protecting.{protected_bytes}
+use Rattle.log_reading.specs.fixup_record.Protecting.{protected_bytes}
 use Rattle.log_area.specs.Areas.{LogAreaOf, page_sector, held_page, made_page}
 use Rattle.log_area.specs.Calls.{IsCheckOf, Sends, sending_moment}
 use Rattle.log_area.proofs.Behind.{sends_behind}

@@ -1,6 +1,6 @@
 use Rattle.std.proofs.Common.{◌∙◌, ap, arith}
 use Rattle.std.specs.Prelude.{length}
-use Rattle.log_model.proofs.EntrySpelled.{length-zeros}
+use Rattle.log_reading.proofs.log_model.EntrySpelled.{length-zeros}
 use Rattle.log_area.proofs.page.RingPage.new.Goals as goal
 
 pub invariant_of-result : goal.invariant_of-result

@@ -1,7 +1,7 @@
 use Rattle.std.proofs.Common.{◌≡◌, ℕ, true, List, sym, ap, subst, ◌∙◌}
 use Rattle.std.specs.Prelude.{All, IfSome}
-use Rattle.disk_model.specs.declared.block.Change.{Change}
-use Rattle.disk_model.specs.Content.{Content}
+use Rattle.plan_bodies.specs.disk_model.declared.block.Change.{Change}
+use Rattle.plan_bodies.specs.disk_model.Content.{Content}
 use Rattle.block_view.specs.Changes.{Fits, content_after}
 use Rattle.plan_draft.specs.Touching.{rises}
 use Rattle.plan_draft.specs.Drafts.{drafted}

@@ -1,8 +1,8 @@
 use Rattle.std.proofs.Common.{rules, ◌≡◌, ℕ, ◌*◌, Bool, true, false, length, sym, ap, ◌∙◌}
 use Rattle.std.specs.Prelude.{is_some}
-use Rattle.disk_model.specs.Bodies.{BodyOf}
-use Rattle.disk_model.specs.Bytes.{zeros}
-use Rattle.disk_model.specs.Sectors.{sectors}
+use Rattle.plan_bodies.specs.disk_model.Bodies.{BodyOf}
+use Rattle.plan_bodies.specs.disk_model.Bytes.{zeros}
+use Rattle.plan_bodies.specs.disk_model.Sectors.{sectors}
 use Rattle.plan_draft.specs.Touching.{touched_at}
 use Rattle.plan_draft.proofs.Touching.{on_ok}
 use Rattle.plan_draft.proofs.Parts.{present_fresh, present_read, zeros_long}

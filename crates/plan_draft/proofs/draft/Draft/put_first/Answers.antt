@@ -1,6 +1,6 @@
 use Rattle.std.proofs.Common.{◌≡◌, ℕ, ◌*◌, true, List, length, Some, refl, sym, ap, ◌∙◌, arith}
 use Rattle.std.specs.Prelude.{All, insert}
-use Rattle.disk_model.specs.Content.{Content}
+use Rattle.plan_bodies.specs.disk_model.Content.{Content}
 use Rattle.plan_draft.specs.declared.touched.Touched.{Touched}
 use Rattle.plan_draft.specs.Touching.{keys_of, rises, IsWhole, IsOldOf, touch, bodies_of}
 use Rattle.plan_draft.proofs.Touching.{either_way, at_known, for_each}

@@ -1,5 +1,5 @@
 use Rattle.std.proofs.Common.{◌≡◌, rules, false, List, ℕ, ap, sym, ◌∙◌}
-use Rattle.disk_model.specs.Bodies.{BodyOf}
+use Rattle.plan_bodies.specs.disk_model.Bodies.{BodyOf}
 use Rattle.plan_draft.proofs.Touching.{body_found, body_kept, on_ok}
 use Rattle.plan_draft.proofs.draft.DraftView.body.Goals as goal
 

@@ -1,5 +1,5 @@
 use Rattle.std.proofs.Common.{ℕ, ◌-◌, ◌≤◌, length}
-use Rattle.bit_set.specs.Bits.{IsClearRun}
+use Rattle.space_model.specs.bit_set.Bits.{IsClearRun}
 use Rattle.plan_space.specs.Spans.{with_spans}
 use Rattle.plan_space.proofs.taken.TakenFreeBits.first_run.Given as goal
 

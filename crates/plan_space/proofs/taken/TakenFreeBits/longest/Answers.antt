@@ -1,5 +1,5 @@
 use Rattle.std.proofs.Common.{subst, arith}
-use Rattle.bit_set.specs.Bits.{IsClearRun}
+use Rattle.space_model.specs.bit_set.Bits.{IsClearRun}
 use Rattle.plan_space.specs.Spans.{with_spans}
 use Rattle.plan_space.proofs.Spanning.{longest_found, none_longer, all_set_with, all_set_without, halves}
 use Rattle.plan_space.proofs.taken.TakenFreeBits.longest.Goals as goal

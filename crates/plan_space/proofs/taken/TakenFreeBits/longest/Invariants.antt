@@ -1,5 +1,5 @@
 use Rattle.std.proofs.Common.{ℕ, ◌-◌, ◌+◌, ◌<◌, ◌≤◌}
-use Rattle.bit_set.specs.Bits.{IsClearRun, IsFirstRun}
+use Rattle.space_model.specs.bit_set.Bits.{IsClearRun, IsFirstRun}
 use Rattle.plan_space.specs.Spans.{with_spans}
 use Rattle.plan_space.proofs.taken.TakenFreeBits.longest.Given as goal
 

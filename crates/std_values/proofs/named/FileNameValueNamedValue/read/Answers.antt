@@ -1,5 +1,5 @@
 use Rattle.std.proofs.Common.{◌≡◌, true, ap, ◌∙◌, arith}
-use Rattle.host_base.specs.FileRefs.{unpacked}
+use Rattle.record_model.specs.host_base.FileRefs.{unpacked}
 use Rattle.record_model.specs.Values.{parent_of, space_of, has_name_length}
 use Rattle.std_values.proofs.Naming.{named_value}
 use Rattle.std_values.proofs.named.FileNameValueNamedValue.read.Goals as goal

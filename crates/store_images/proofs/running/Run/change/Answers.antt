@@ -1,5 +1,5 @@
 use Rattle.std.proofs.Common.{subst, sym}
-use Rattle.txn_state.specs.States.{StateOf, facts_of, IsStore}
+use Rattle.txn_core.specs.txn_state.States.{StateOf, facts_of, IsStore}
 use Rattle.store_images.specs.Running.{MayMake}
 use Rattle.store_images.proofs.Calls.{running_changed}
 use Rattle.store_images.proofs.running.Run.change.Goals as goal

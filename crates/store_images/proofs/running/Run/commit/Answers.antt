@@ -1,5 +1,5 @@
 use Rattle.std.proofs.Common.{[], subst, sym}
-use Rattle.txn_state.specs.States.{StateOf, facts_of}
+use Rattle.txn_core.specs.txn_state.States.{StateOf, facts_of}
 use Rattle.store_images.specs.Running.{MayBegin, pages_of_changes}
 use Rattle.store_images.proofs.Rooms.{uncapped}
 use Rattle.store_images.proofs.running.Run.commit.Goals as goal

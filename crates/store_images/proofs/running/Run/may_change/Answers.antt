@@ -1,7 +1,7 @@
 use Rattle.std.proofs.Common.{◌≡◌, [], ◌∷◌, subst, sym, ◌∙◌}
 use Rattle.disk_model.specs.declared.block.Change.{Change}
-use Rattle.txn_log.specs.Counts.{capped}
-use Rattle.txn_state.specs.States.{StateOf, facts_of}
+use Rattle.txn_core.specs.txn_log.Counts.{capped}
+use Rattle.txn_core.specs.txn_state.States.{StateOf, facts_of}
 use Rattle.store_images.specs.Running.{MayBegin, MayMake, change_of, pages_of_changes}
 use Rattle.store_images.proofs.Rooms.{uncapped, may_make}
 use Rattle.store_images.proofs.running.Run.may_change.Goals as goal

@@ -1,5 +1,5 @@
 use Rattle.std.proofs.Common.{sym, subst}
-use Rattle.txn_model.specs.Values.{StoreFacts}
+use Rattle.txn_laws.specs.txn_model.Values.{StoreFacts}
 use Rattle.txn_state.specs.States.{facts_of}
 use Rattle.txn_core.specs.Calls.{sync_facts, AfterSync}
 use Rattle.txn_core.specs.Tells.{TellsFront}

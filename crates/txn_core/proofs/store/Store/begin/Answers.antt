@@ -1,5 +1,5 @@
 use Rattle.std.proofs.Common.{refl, ap, ◌∙◌}
-use Rattle.txn_model.specs.Calls.{begun_facts}
+use Rattle.txn_laws.specs.txn_model.Calls.{begun_facts}
 use Rattle.txn_state.specs.States.{facts_of}
 use Rattle.txn_laws.specs.Windows.{AfterBegin}
 use Rattle.txn_core.specs.Seen.{Seen}

@@ -1,8 +1,8 @@
 use Rattle.std.proofs.Common.{◌≡◌, ◌^◌, ◌<◌, refl, ap, subst, ◌∙◌}
-use Rattle.log_page.specs.Places.{sequence_bits}
-use Rattle.log_area.specs.Areas.{lap_at, next_number, next_lsn}
-use Rattle.txn_model.specs.Values.{StoreFacts}
-use Rattle.txn_model.specs.Calls.{noted_facts}
+use Rattle.txn_laws.specs.log_page.Places.{sequence_bits}
+use Rattle.device_blocks.specs.log_area.Areas.{lap_at, next_number, next_lsn}
+use Rattle.txn_laws.specs.txn_model.Values.{StoreFacts}
+use Rattle.txn_laws.specs.txn_model.Calls.{noted_facts}
 use Rattle.txn_state.specs.States.{facts_of}
 use Rattle.txn_laws.specs.Windows.{AfterWrite}
 use Rattle.txn_core.specs.Seen.{Seen}

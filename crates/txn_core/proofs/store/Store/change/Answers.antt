@@ -1,6 +1,6 @@
 use Rattle.std.proofs.Common.{◌≡◌, None, refl, sym, subst, arith}
 use Rattle.std.specs.Prelude.{OnOk, IfErr}
-use Rattle.device_view.specs.Devices.{CountsOnDevice}
+use Rattle.device_blocks.specs.device_view.Devices.{CountsOnDevice}
 use Rattle.txn_state.specs.States.{facts_of}
 use Rattle.txn_core.specs.declared.fault.ChangeFault.TheVariants.{Unspelled}
 use Rattle.txn_core.specs.Changes.{change_cause, WordIsPut, MayChangeNow, HasChanged, AfterChanging}

@@ -1,8 +1,8 @@
 use Rattle.std.proofs.Common.{[], ◌∷◌, refl, sym, ap, subst, ◌∙◌}
-use Rattle.log_model.specs.declared.entry.Act.TheVariants.{Commit}
-use Rattle.txn_model.specs.Appending.{MayAppend}
-use Rattle.txn_model.specs.Pieces.{next_entry}
-use Rattle.txn_model.specs.Calls.{committed_facts}
+use Rattle.txn_laws.specs.log_model.declared.entry.Act.TheVariants.{Commit}
+use Rattle.txn_laws.specs.txn_model.Appending.{MayAppend}
+use Rattle.txn_laws.specs.txn_model.Pieces.{next_entry}
+use Rattle.txn_laws.specs.txn_model.Calls.{committed_facts}
 use Rattle.txn_state.specs.States.{facts_of}
 use Rattle.txn_laws.specs.Windows.{AfterCommit}
 use Rattle.txn_core.specs.Seen.{Seen}

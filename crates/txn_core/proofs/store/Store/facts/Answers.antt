@@ -1,8 +1,8 @@
 use Rattle.std.proofs.Common.{◌≡◌, ◌+◌, ◌-◌, ◌≤◌, false, not, ℕ, Option, refl, sym, ap, ap₂, subst, ◌∙◌, arith}
 use Rattle.std.specs.Prelude.{◌&&◌, nat_lt, is_some, unwrap_or}
-use Rattle.log_area.specs.Areas.{LogAreaOf, is_filling, used_pages, ring_size, next_lsn}
-use Rattle.flush_policy.specs.declared.facts.Facts.{Facts}
-use Rattle.txn_model.specs.Told.{FactsTold, KeepsMarked, KeepsSteps}
+use Rattle.device_blocks.specs.log_area.Areas.{LogAreaOf, is_filling, used_pages, ring_size, next_lsn}
+use Rattle.txn_laws.specs.flush_policy.declared.facts.Facts.{Facts}
+use Rattle.txn_laws.specs.txn_model.Told.{FactsTold, KeepsMarked, KeepsSteps}
 use Rattle.txn_state.specs.States.{facts_of}
 use Rattle.txn_core.specs.Seen.{Seen}
 use Rattle.txn_core.specs.Kept.{IsKept}

@@ -1,11 +1,11 @@
 use Rattle.std.proofs.Common.{refl, ap, subst, ◌∙◌}
-use Rattle.txn_model.specs.Calls.{given_up_facts}
+use Rattle.txn_laws.specs.txn_model.Calls.{given_up_facts}
 use Rattle.txn_state.specs.States.{facts_of}
 use Rattle.txn_laws.specs.Windows.{AfterGiveUp}
 use Rattle.txn_core.specs.Seen.{Seen}
 use Rattle.txn_core.proofs.Calling.{give_up_step}
-use Rattle.txn_model.specs.Values.{StoreFacts}
-use Rattle.txn_model.specs.Calls.{is_ready}
+use Rattle.txn_laws.specs.txn_model.Values.{StoreFacts}
+use Rattle.txn_laws.specs.txn_model.Calls.{is_ready}
 use Rattle.txn_core.specs.Tells.{IsLowest}
 use Rattle.txn_core.proofs.Kepts.{given_up_kept}
 use Rattle.txn_core.proofs.Tellings.{given_up_told}

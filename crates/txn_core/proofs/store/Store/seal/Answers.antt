@@ -1,5 +1,5 @@
 use Rattle.std.proofs.Common.{refl}
-use Rattle.txn_model.specs.Calls.{sealed_facts}
+use Rattle.txn_laws.specs.txn_model.Calls.{sealed_facts}
 use Rattle.txn_state.specs.States.{facts_of}
 use Rattle.txn_laws.specs.Windows.{AfterWrite}
 use Rattle.txn_core.proofs.Calling.{seal_step}

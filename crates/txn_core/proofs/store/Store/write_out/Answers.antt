@@ -1,9 +1,9 @@
 use Rattle.std.proofs.Common.{◌≡◌, Bool, true, List, sym, ap, subst, ◌∙◌}
 use Rattle.std.specs.Prelude.{is_ok, is_some, IfSome}
-use Rattle.disk_model.specs.declared.block.Block.{Block}
-use Rattle.disk_model.specs.Sectors.{are_rivals}
-use Rattle.block_pool.specs.Pools.{held}
-use Rattle.txn_model.specs.Calls.{is_ready}
+use Rattle.device_blocks.specs.disk_model.declared.block.Block.{Block}
+use Rattle.device_blocks.specs.disk_model.Sectors.{are_rivals}
+use Rattle.txn_laws.specs.block_pool.Pools.{held}
+use Rattle.txn_laws.specs.txn_model.Calls.{is_ready}
 use Rattle.txn_state.specs.States.{facts_of}
 use Rattle.txn_laws.specs.Windows.{MovesTo}
 use Rattle.device_blocks.specs.declared.word.CheckWord.{CheckWord}
@@ -11,7 +11,7 @@ use Rattle.device_blocks.specs.Words.{IsFitWord}
 use Rattle.txn_core.specs.Calls.{is_spelled, out_facts, out_words, WritesOut, IsOut}
 use Rattle.txn_core.specs.Seen.{Seen}
 use Rattle.txn_core.proofs.Keeping.{step_of, stands_after}
-use Rattle.txn_model.specs.Values.{StoreFacts}
+use Rattle.txn_laws.specs.txn_model.Values.{StoreFacts}
 use Rattle.txn_state.proofs.Stores.{dirty_grid}
 use Rattle.txn_core.proofs.Outs.{ready_dirty, ready_kept, word_fit, out_step, out_worded, out_fit}
 use Rattle.txn_core.proofs.Tellings.{WroteOut, out_told}

@@ -1,5 +1,5 @@
 use Rattle.std.proofs.Common.{arith}
-use Rattle.device_view.proofs.Failing.{went_well, ended, failed}
+use Rattle.device_blocks.proofs.device_view.Failing.{went_well, ended, failed}
 use Rattle.txn_core.proofs.view.StoreViewView.body.Goals as goal
 
 pub returns-in-Err-clause-cause : goal.returns-in-Err-clause-cause

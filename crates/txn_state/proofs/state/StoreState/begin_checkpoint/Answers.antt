@@ -1,6 +1,6 @@
 use Rattle.std.proofs.Common.{ℕ, Some, refl, sym, ap, subst, ◌∙◌}
-use Rattle.log_area.specs.Areas.{LogAreaOf}
-use Rattle.txn_model.specs.Calls.{noted_facts}
+use Rattle.txn_log.specs.log_area.Areas.{LogAreaOf}
+use Rattle.txn_log.specs.txn_model.Calls.{noted_facts}
 use Rattle.txn_state.specs.States.{StateOf, facts_of, IsStore}
 use Rattle.txn_state.proofs.Facts.{same_facts}
 use Rattle.txn_state.proofs.Stores.{noted_keeps}

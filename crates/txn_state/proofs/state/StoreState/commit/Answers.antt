@@ -1,9 +1,9 @@
 use Rattle.std.proofs.Common.{ℕ, [], ◌∷◌, length, refl, sym, ap, subst, ◌∙◌}
-use Rattle.log_model.specs.declared.entry.Act.TheVariants.{Commit}
-use Rattle.log_area.specs.Areas.{ring_size}
-use Rattle.txn_model.specs.Pieces.{ends_with}
-use Rattle.store_pools.specs.Pools.{bodies_of, marks_of}
-use Rattle.txn_model.specs.Calls.{committed_marks}
+use Rattle.txn_log.specs.log_model.declared.entry.Act.TheVariants.{Commit}
+use Rattle.txn_log.specs.log_area.Areas.{ring_size}
+use Rattle.txn_log.specs.txn_model.Pieces.{ends_with}
+use Rattle.txn_log.specs.store_pools.Pools.{bodies_of, marks_of}
+use Rattle.txn_log.specs.txn_model.Calls.{committed_marks}
 use Rattle.txn_state.specs.States.{StateOf, IsStore}
 use Rattle.txn_state.proofs.Facts.{same_facts, one_more, none_left}
 use Rattle.txn_state.proofs.Stores.{committed_keeps}

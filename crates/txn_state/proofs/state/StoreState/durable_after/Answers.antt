@@ -1,6 +1,6 @@
 use Rattle.std.proofs.Common.{ap, ◌∙◌, arith}
-use Rattle.log_area.specs.Areas.{place_at}
-use Rattle.txn_model.specs.Calls.{durable_after}
+use Rattle.txn_log.specs.log_area.Areas.{place_at}
+use Rattle.txn_log.specs.txn_model.Calls.{durable_after}
 use Rattle.txn_state.specs.States.{StateOf}
 use Rattle.txn_state.proofs.Marking.{last_told}
 use Rattle.txn_state.proofs.state.StoreState.durable_after.Goals as goal

@@ -1,5 +1,5 @@
 use Rattle.std.proofs.Common.{refl, sym, ap, subst, ◌∙◌}
-use Rattle.txn_model.specs.Calls.{given_up_facts}
+use Rattle.txn_log.specs.txn_model.Calls.{given_up_facts}
 use Rattle.txn_state.specs.States.{StateOf, facts_of, IsStore}
 use Rattle.txn_state.proofs.Facts.{same_facts, one_more, none_left}
 use Rattle.txn_state.proofs.Stores.{given_up_keeps}

@@ -1,11 +1,11 @@
 use Rattle.std.proofs.Common.{ℕ, cond, Option, None, refl, sym, ap, subst, ◌∙◌}
 use Rattle.std.specs.Prelude.{is_some}
-use Rattle.disk_model.specs.declared.block.Block.{Block}
-use Rattle.disk_model.specs.declared.block.Body.{Body}
-use Rattle.log_area.specs.Areas.{LogAreaOf}
-use Rattle.store_pools.specs.Pools.{bodies_of, marks_of}
-use Rattle.txn_model.specs.declared.mark.Mark.{Mark}
-use Rattle.txn_model.specs.Calls.{is_buried, synced_mark, durable_after, synced_facts}
+use Rattle.txn_log.specs.disk_model.declared.block.Block.{Block}
+use Rattle.txn_log.specs.disk_model.declared.block.Body.{Body}
+use Rattle.txn_log.specs.log_area.Areas.{LogAreaOf}
+use Rattle.txn_log.specs.store_pools.Pools.{bodies_of, marks_of}
+use Rattle.txn_log.specs.txn_model.declared.mark.Mark.{Mark}
+use Rattle.txn_log.specs.txn_model.Calls.{is_buried, synced_mark, durable_after, synced_facts}
 use Rattle.txn_state.specs.States.{StateOf, state_of, facts_of, IsStore}
 use Rattle.txn_state.proofs.Facts.{same_facts}
 use Rattle.txn_state.proofs.Stores.{synced_keeps}

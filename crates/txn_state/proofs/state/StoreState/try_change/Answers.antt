@@ -1,11 +1,11 @@
 use Rattle.std.proofs.Common.{ℕ, ◌+◌, suc, List, length, refl, sym, ap, subst, ◌∙◌}
-use Rattle.log_model.specs.declared.entry.Act.{Act}
-use Rattle.log_area.specs.Areas.{LogAreaOf, ring_size}
-use Rattle.store_pools.specs.declared.kept.KeptBody.{KeptBody}
-use Rattle.store_pools.specs.Pools.{body_of_kept, bodies_of, marks_of}
-use Rattle.txn_model.specs.Values.{put_at}
-use Rattle.txn_model.specs.Pieces.{ends_with, last_of, log_with}
-use Rattle.txn_model.specs.Calls.{change_acts, changed_facts}
+use Rattle.txn_log.specs.log_model.declared.entry.Act.{Act}
+use Rattle.txn_log.specs.log_area.Areas.{LogAreaOf, ring_size}
+use Rattle.txn_log.specs.store_pools.declared.kept.KeptBody.{KeptBody}
+use Rattle.txn_log.specs.store_pools.Pools.{body_of_kept, bodies_of, marks_of}
+use Rattle.txn_log.specs.txn_model.Values.{put_at}
+use Rattle.txn_log.specs.txn_model.Pieces.{ends_with, last_of, log_with}
+use Rattle.txn_log.specs.txn_model.Calls.{change_acts, changed_facts}
 use Rattle.txn_state.specs.States.{StateOf, state_of, facts_of, IsStore, MayChange}
 use Rattle.txn_state.proofs.Facts.{same_facts, one_more}
 use Rattle.txn_state.proofs.Marking.{marks_changed}

@@ -1,7 +1,7 @@
 use Rattle.std.proofs.Common.{◌≡◌, Bool, true, refl, sym, ap, ap₂, subst, ◌∙◌}
-use Rattle.store_pools.specs.Pools.{bodies_of, marks_of}
-use Rattle.txn_model.specs.declared.mark.Mark.{Mark}
-use Rattle.txn_model.specs.Calls.{is_ready, written_out_facts}
+use Rattle.txn_log.specs.store_pools.Pools.{bodies_of, marks_of}
+use Rattle.txn_log.specs.txn_model.declared.mark.Mark.{Mark}
+use Rattle.txn_log.specs.txn_model.Calls.{is_ready, written_out_facts}
 use Rattle.txn_state.specs.States.{StateOf, state_of, facts_of, IsStore}
 use Rattle.txn_state.proofs.Facts.{same_facts}
 use Rattle.txn_state.proofs.Turning.{taken_bodies}

@@ -1,5 +1,5 @@
 use Rattle.std.proofs.Common.{length, sym, ap, ◌∙◌, Ok}
-use Rattle.record_model.proofs.Attributes.{length-units_at}
+use Rattle.index_model.proofs.record_model.Attributes.{length-units_at}
 use Rattle.upcase_order.proofs.Units.{upcase-read, upcase-refused}
 use Rattle.upcase_order.proofs.upcase.Upcase.read.Goals as goal
 

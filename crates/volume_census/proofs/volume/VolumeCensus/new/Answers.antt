@@ -1,4 +1,4 @@
-use Rattle.volume_map.specs.Maps.{volume_in}
+use Rattle.volume_lookup.specs.volume_map.Maps.{volume_in}
 use Rattle.volume_lookup.proofs.Asking.{known_where}
 use Rattle.volume_census.proofs.volume.VolumeCensus.new.Goals as goal
 

@@ -1,4 +1,4 @@
-use Rattle.volume_map.specs.Maps.{volume_in}
+use Rattle.volume_lookup.specs.volume_map.Maps.{volume_in}
 use Rattle.volume_census.proofs.Counting.{system_known}
 use Rattle.volume_census.proofs.volume.VolumeCensusCensus.is_in_system.Goals as goal
 

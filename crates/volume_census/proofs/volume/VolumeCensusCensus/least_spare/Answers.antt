@@ -1,7 +1,7 @@
 use Rattle.std.proofs.Common.{ap, ◌∙◌, List}
 use Rattle.tree_model.specs.Effects.{least_ref}
-use Rattle.volume_map.specs.declared.head.Head.{Head}
-use Rattle.volume_map.specs.Heads.{spares_of}
+use Rattle.volume_lookup.specs.volume_map.declared.head.Head.{Head}
+use Rattle.volume_lookup.specs.volume_map.Heads.{spares_of}
 use Rattle.volume_census.proofs.Counting.{spare_known}
 use Rattle.volume_census.proofs.volume.VolumeCensusCensus.least_spare.Goals as goal
 

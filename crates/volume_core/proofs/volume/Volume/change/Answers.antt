@@ -1,7 +1,7 @@
 use Rattle.std.proofs.Common.{rules, subst, sym, refl}
-use Rattle.map_change.specs.Parts.{live_parts}
+use Rattle.working_volume.specs.map_change.Parts.{live_parts}
 use Rattle.txn_state.specs.States.{facts_of}
-use Rattle.state_store.specs.Rooms.{MayNumber}
+use Rattle.working_volume.specs.state_store.Rooms.{MayNumber}
 use Rattle.volume_core.specs.Volumes.{SeenVolume}
 use Rattle.volume_core.proofs.Working.{done, room_stays}
 use Rattle.volume_core.proofs.Stepping.{tree_steps}

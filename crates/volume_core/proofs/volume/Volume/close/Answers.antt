@@ -1,4 +1,4 @@
-use Rattle.map_change.specs.Parts.{live_parts}
+use Rattle.working_volume.specs.map_change.Parts.{live_parts}
 use Rattle.volume_core.proofs.Histories.{closes_trees}
 use Rattle.volume_core.proofs.volume.Volume.close.Goals as goal
 

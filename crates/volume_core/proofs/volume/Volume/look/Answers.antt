@@ -1,6 +1,6 @@
 use Rattle.std.proofs.Common.{subst, refl, Option}
 use Rattle.file_tree.specs.declared.tree.Tree.{Tree}
-use Rattle.map_change.specs.Parts.{live_parts}
+use Rattle.working_volume.specs.map_change.Parts.{live_parts}
 use Rattle.volume_core.specs.Looks.{CountsLook}
 use Rattle.volume_core.proofs.Counting.{replies}
 use Rattle.volume_core.proofs.Working.{tree_known}

@@ -2,7 +2,7 @@ use Rattle.std.proofs.Common.{◌≡◌, Option, None, sym, subst}
 use Rattle.std.specs.Prelude.{◌↔◌, length}
 use Rattle.flush_policy.specs.declared.facts.StoreStep.{StoreStep}
 use Rattle.flush_policy.specs.Steps.{IsDone}
-use Rattle.txn_core.specs.Leading.{dirty_blocks}
+use Rattle.working_volume.specs.txn_core.Leading.{dirty_blocks}
 use Rattle.txn_state.specs.States.{facts_of}
 use Rattle.volume_core.proofs.volume.Volume.next.Goals as goal
 

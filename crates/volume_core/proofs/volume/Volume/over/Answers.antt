@@ -1,4 +1,4 @@
-use Rattle.map_change.specs.Parts.{live_parts}
+use Rattle.working_volume.specs.map_change.Parts.{live_parts}
 use Rattle.volume_core.proofs.Histories.{starts_history}
 use Rattle.volume_core.proofs.volume.Volume.over.Goals as goal
 

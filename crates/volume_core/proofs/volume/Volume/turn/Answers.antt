@@ -1,7 +1,7 @@
 use Rattle.std.proofs.Common.{subst, sym, refl}
-use Rattle.map_change.specs.Parts.{live_parts}
+use Rattle.working_volume.specs.map_change.Parts.{live_parts}
 use Rattle.txn_state.specs.States.{facts_of}
-use Rattle.txn_core.specs.Steps.{MayTurn, AfterTurn}
+use Rattle.working_volume.specs.txn_core.Steps.{MayTurn, AfterTurn}
 use Rattle.volume_core.specs.Volumes.{SeenVolume}
 use Rattle.volume_core.proofs.Working.{turned, tree_stays}
 use Rattle.volume_core.proofs.Histories.{turns_trees}

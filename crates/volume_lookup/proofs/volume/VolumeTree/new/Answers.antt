@@ -1,4 +1,4 @@
-use Rattle.volume_map.specs.Maps.{volume_in}
+use Rattle.volume_tree.specs.volume_map.Maps.{volume_in}
 use Rattle.volume_lookup.proofs.Asking.{known_where}
 use Rattle.volume_lookup.proofs.volume.VolumeTree.new.Goals as goal
 

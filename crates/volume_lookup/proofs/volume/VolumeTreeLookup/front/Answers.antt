@@ -1,5 +1,5 @@
 use Rattle.std.proofs.Common.{length}
-use Rattle.volume_map.specs.Maps.{volume_in}
+use Rattle.volume_tree.specs.volume_map.Maps.{volume_in}
 use Rattle.volume_lookup.proofs.Fronting.{front_known}
 use Rattle.volume_lookup.proofs.volume.VolumeTreeLookup.front.Goals as goal
 

@@ -1,4 +1,4 @@
-use Rattle.volume_map.specs.Maps.{volume_in}
+use Rattle.volume_tree.specs.volume_map.Maps.{volume_in}
 use Rattle.volume_lookup.proofs.Giving.{link_known}
 use Rattle.volume_lookup.proofs.volume.VolumeTreeLookup.link.Goals as goal
 

@@ -1,4 +1,4 @@
-use Rattle.volume_map.specs.Maps.{volume_in}
+use Rattle.volume_tree.specs.volume_map.Maps.{volume_in}
 use Rattle.volume_lookup.proofs.Giving.{count_known}
 use Rattle.volume_lookup.proofs.volume.VolumeTreeLookup.long_names_of.Goals as goal
 

@@ -11,17 +11,17 @@ use Rattle.log_page.specs.declared.places.LogPlace.{LogPlace}
 use Rattle.state_model.specs.declared.geometry.Geometry.{Geometry}
 use Rattle.volume_model.specs.Volumes.{Volume, cluster_bits}
 use Rattle.stream_laws.proofs.Rewriting.{volume_parts}
-use Rattle.map_change.specs.Parts.{MapParts}
-use Rattle.state_store.specs.Volumes.{geometry_of}
+use Rattle.spares_at_mount.specs.map_change.Parts.{MapParts}
+use Rattle.spares_at_mount.specs.state_store.Volumes.{geometry_of}
 use Rattle.volume_model.specs.Indexes.{void_block}
-use Rattle.plan_owners.specs.States.{Stands}
-use Rattle.image_open.specs.declared.refusal.Refusal.{Refusal}
-use Rattle.volume_mount.specs.Boot.{keeps_boot}
-use Rattle.volume_mount.specs.Mounts.{pages_lie, has_single_lists, changeable, MountedVolume, mounted_in}
-use Rattle.mount_laws.specs.Laws.{MountedOnRing, LiesByRecord, MountedByRecord, MountedPasses}
+use Rattle.spares_at_mount.specs.plan_owners.States.{Stands}
+use Rattle.spares_at_mount.specs.image_open.declared.refusal.Refusal.{Refusal}
+use Rattle.spares_at_mount.specs.volume_mount.Boot.{keeps_boot}
+use Rattle.spares_at_mount.specs.volume_mount.Mounts.{pages_lie, has_single_lists, changeable, MountedVolume, mounted_in}
+use Rattle.spares_at_mount.specs.mount_laws.Laws.{MountedOnRing, LiesByRecord, MountedByRecord, MountedPasses}
 use Rattle.spares_at_mount.proofs.Lying.{lies_in_log, alike_lies}
-use Rattle.txn_model.specs.Values.{StoreFacts}
-use Rattle.txn_laws.specs.Windows.{HasStart}
+use Rattle.spares_at_mount.specs.txn_model.Values.{StoreFacts}
+use Rattle.spares_at_mount.specs.txn_laws.Windows.{HasStart}
 use Rattle.member_states.specs.Members.{base_of, is_found, void_body, MembersAre}
 use Rattle.member_states.proofs.Starting.{holds_content}
 use Rattle.member_states.proofs.Recovering.{void_is}

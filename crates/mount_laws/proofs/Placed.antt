@@ -7,29 +7,29 @@ use Rattle.host_base.specs.Answers.{◌>>=◌, needs}
 use Rattle.disk_model.specs.Content.{Content}
 use Rattle.record_model.specs.Records.{Record}
 use Rattle.record_model.proofs.Answering.{steps_from_ok}
-use Rattle.state_model.specs.declared.stream.Stream.{Stream}
-use Rattle.state_model.specs.declared.stream.Stream.TheVariants.{Held, Placed}
-use Rattle.state_model.specs.Rules.{first_failing}
-use Rattle.volume_model.specs.Volumes.{Volume, volume_of, file_in, log_file, cluster_bits, upper_of}
-use Rattle.volume_state.specs.Rules.{first_broken}
-use Rattle.volume_state.specs.Trees.{checked}
-use Rattle.volume_state.proofs.Reports.{reports}
-use Rattle.stream_laws.proofs.Rewriting.{volume_parts}
-use Rattle.stream_rules.proofs.Failing.{FindsLeast, finds_least}
+use Rattle.volume_mount.specs.state_model.declared.stream.Stream.{Stream}
+use Rattle.volume_mount.specs.state_model.declared.stream.Stream.TheVariants.{Held, Placed}
+use Rattle.volume_mount.specs.state_model.Rules.{first_failing}
+use Rattle.volume_mount.specs.volume_model.Volumes.{Volume, volume_of, file_in, log_file, cluster_bits, upper_of}
+use Rattle.volume_mount.specs.volume_state.Rules.{first_broken}
+use Rattle.volume_mount.specs.volume_state.Trees.{checked}
+use Rattle.volume_mount.proofs.volume_state.Reports.{reports}
+use Rattle.volume_mount.proofs.stream_laws.Rewriting.{volume_parts}
+use Rattle.volume_mount.proofs.stream_rules.Failing.{FindsLeast, finds_least}
 use Rattle.plan_owners.specs.States.{Stands}
-use Rattle.log_page.specs.declared.places.LogPlace.{LogPlace}
-use Rattle.log_reading.specs.Rings.{IsRingPlace}
-use Rattle.log_recovery.specs.Recovering.{shadow_lsn}
-use Rattle.image_open.specs.declared.refusal.Refusal.{Refusal}
-use Rattle.image_open.specs.Errors.{map_refusal, refused_as}
-use Rattle.image_open.specs.LogPlaces.{stream_place, place_of_log, LieAlike}
-use Rattle.image_open.specs.Volumes.{data_of}
-use Rattle.image_open.specs.Writing.{OpenedToWrite, opened_to_write_in}
-use Rattle.image_read.specs.Errors.{broken_refusal}
-use Rattle.image_read.specs.Checks.{volume_on, has_version, tree_on}
+use Rattle.log_laws.specs.log_page.declared.places.LogPlace.{LogPlace}
+use Rattle.volume_mount.specs.log_reading.Rings.{IsRingPlace}
+use Rattle.volume_mount.specs.log_recovery.Recovering.{shadow_lsn}
+use Rattle.volume_mount.specs.image_open.declared.refusal.Refusal.{Refusal}
+use Rattle.volume_mount.specs.image_open.Errors.{map_refusal, refused_as}
+use Rattle.volume_mount.specs.image_open.LogPlaces.{stream_place, place_of_log, LieAlike}
+use Rattle.volume_mount.specs.image_open.Volumes.{data_of}
+use Rattle.volume_mount.specs.image_open.Writing.{OpenedToWrite, opened_to_write_in}
+use Rattle.volume_mount.specs.image_read.Errors.{broken_refusal}
+use Rattle.volume_mount.specs.image_read.Checks.{volume_on, has_version, tree_on}
 use Rattle.volume_mount.specs.Boot.{keeps_boot}
 use Rattle.volume_mount.specs.Mounts.{Said, unless_said, is_there, begun_sectors, or_all, front_sectors, lying_pages, pages_lie, has_single_lists, changeable, may_be_changed, pages_needed, whole_pages, has_pages, has_no_journal, unshadowed, placed, ruled, settled, paged, unjournaled, tried, loaded_on, MountedVolume, content_behind, mounted_as, mounted_by, mounted_in}
-use Rattle.volume_shadows.specs.Live.{least_live}
+use Rattle.volume_mount.specs.volume_shadows.Live.{least_live}
 use Rattle.volume_mount.proofs.Booting.{passed}
 use Rattle.mount_laws.specs.Laws.{MountedOnRing, LiesByRecord, MountedByRecord, PassesMount, MountedPasses}
 use Rattle.mount_laws.proofs.Opened.{OpenedParts, opened_parts, IsWhole, its_place, lies_in_ring}

@@ -1,0 +1,22 @@
+pub use Rattle.data_plan.proofs as data_plan
+pub use Rattle.data_plan.proofs.step_model
+pub use Rattle.data_plan.proofs.used_laws
+pub use Rattle.record_times.proofs.draft_bits
+pub use Rattle.record_times.proofs.draft_records
+pub use Rattle.record_times.proofs.draft_resized
+pub use Rattle.record_times.proofs.index_change
+pub use Rattle.record_times.proofs.plan_changes
+pub use Rattle.record_times.proofs.plan_edits
+pub use Rattle.record_times.proofs.plan_growth
+pub use Rattle.record_times.proofs.plan_informed
+pub use Rattle.record_times.proofs.plan_model
+pub use Rattle.record_times.proofs.plan_owners
+pub use Rattle.record_times.proofs.plan_values
+pub use Rattle.record_times.proofs.record_streams
+pub use Rattle.record_times.proofs.record_values
+pub use Rattle.record_times.proofs.record_writer
+pub use Rattle.record_times.proofs.resized_streams
+pub use Rattle.record_times.proofs.stream_laws
+pub use Rattle.record_times.proofs.stream_map
+pub use Rattle.record_times.proofs.stream_runs
+pub use Rattle.record_times.proofs.tree_laws
