@@ -9,8 +9,8 @@ it. What the crate names of it goes through such a one from then on, which passe
 - `Rattle.low.proofs` becomes `Rattle.mid.proofs.low`, and proofs/Lib.antt of `mid` gets `pub use Rattle.low.proofs as low`;
 - `low::Item` becomes `mid::Item`, and src/lib.rt of `mid` gets `pub use low::Item`.
 
-Edits in must-fail and tools/bugs follow. A library stays in a list where a tactic's `unfolding` or `using` names it, or where an item
-would be passed on under a name that the crate on the way, or a file of its proofs/, has for another thing. Run `rt fmt` in the changed crates behind it.
+Edits in must-fail and tools/bugs follow. A library stays in a list where a tactic's `unfolding` or `using` names it, where
+specs/ or src/ name its proofs, or where an item would be passed on under a name that the crate on the way, or a file of its proofs/, has for another thing. Run `rt fmt` in the changed crates behind it.
 """
 import argparse
 import os
@@ -88,9 +88,12 @@ class Lists:
                 up[it] += up[crate]
         return down, up
 
-    def is_by_tactic(self, crate, low):
-        found = [it for path in files(crate, "src", ".rt") for it in re.findall(r"#!?\[tactic\((.*?)\)\]", read(path), re.S)]
-        return any(re.search(rf"\b{low}::", it) for it in found)
+    def is_wanted(self, crate, low):
+        """Whether a tactic names the library, or a contract its proofs, which can't be named through another one."""
+        code = [read(it) for it in files(crate, "src", ".rt")]
+        tactics = [it for text in code for it in re.findall(r"#!?\[tactic\((.*?)\)\]", text, re.S)]
+        said = code + [read(it) for it in files(crate, "specs", ".antt")]
+        return any(re.search(rf"\b{low}::", it) for it in tactics) or any(f"Rattle.{low}.proofs." in it for it in said)
 
     def cut(self, most):
         """Takes libraries out of the lists until at most so many ways are left."""
@@ -99,7 +102,7 @@ class Lists:
             (crate, it)
             for crate, listed in self.deps.items()
             for it in listed
-            if any(it in self.below[other] for other in listed if other != it) and not self.is_by_tactic(crate, it)
+            if any(it in self.below[other] for other in listed if other != it) and not self.is_wanted(crate, it)
         }
         while over:
             down, up = self.ways()
