@@ -9,8 +9,9 @@ it. What the crate names of it goes through such a one from then on, which passe
 - `Rattle.low.proofs` becomes `Rattle.mid.proofs.low`, and proofs/Lib.antt of `mid` gets `pub use Rattle.low.proofs as low`;
 - `low::Item` becomes `mid::Item`, and src/lib.rt of `mid` gets `pub use low::Item`.
 
-Edits in must-fail and tools/bugs follow. A library stays in a list where a tactic's `unfolding` or `using` names it, where
-specs/ or src/ name its proofs, or where an item would be passed on under a name that the crate on the way, or a file of its proofs/, has for another thing. Run `rt fmt` in the changed crates behind it.
+Edits in must-fail and tools/bugs follow. A library stays in a list where a tactic's `unfolding` or `using` names
+it, where specs/ or src/ name its proofs, or where an item would be passed on under a name that the crate on the way, or a file of its
+proofs/, has for another thing. Run `rt fmt` in the changed crates behind it.
 """
 import argparse
 import os
@@ -219,7 +220,8 @@ def shorten(most):
             code = [bare(read(it)) for it in files(crate, "src", ".rt")]
             whole = [read(it) for part, end in (("src", ".rt"), ("specs", ".antt"), ("proofs", ".antt")) for it in files(crate, part, end)]
             items = sorted(set().union(*[items_of(it, low) for it in code]))
-            by = {part: passing.through(part, crate, low) for part in ("specs", "proofs") if any(re.search(rf"\bRattle\.{low}\.{part}\b", it) for it in whole)}
+            named = [part for part in ("specs", "proofs") if any(re.search(rf"\bRattle\.{low}\.{part}\b", it) for it in whole)]
+            by = {part: passing.through(part, crate, low) for part in named}
             if items:
                 by["code"] = passing.through("code", crate, low, items)
             if None in by.values():
