@@ -1,9 +1,10 @@
 //! A volume is opened for operations.
-ghost use Rattle.std.specs.Prelude.{◌≡◌, IfOk, IfErr, IfSome};
+ghost use Rattle.std.specs.Prelude.{◌≡◌, ◌≢◌, IfOk, IfErr, IfSome};
 ghost use Rattle.host_base.specs.Causes.{HasFailed};
 ghost use Rattle.sector_device.specs.Disks.{IsSettled};
+ghost use Rattle.volume_start.specs.device_view.Devices.{KeepsDevice};
 ghost use Rattle.volume_start.specs.Faults.{device_behind};
-ghost use Rattle.volume_start.specs.Starts.{RefusesAs};
+ghost use Rattle.volume_start.specs.Starts.{RefusesAs, UnfitAs};
 ghost use Rattle.volume_start.specs.declared.fault.StartFault.TheVariants as faults;
 ghost use Rattle.volume_open.specs.Opens.{IsOpened};
 
@@ -25,6 +26,8 @@ pub fn mount<D: Device>(alloc: Global, device: D) -> Result<Volume<D>, (StartFau
     ensures sectors { D.sector_count (device_behind result (λ v. v.store.device)) ≡ D.sector_count device }
     ensures fault { IfErr result (λ e. e.0 ≡ faults.Device → HasFailed (D.fault_count device) (D.fault_count e.1) (D.moment_of e.1)) }
     ensures refused { IfSome (D.gives device) (λ first. IfErr result (λ e. RefusesAs first e.0)) }
+    ensures unfit { IfSome (D.gives device) (λ first. IfErr result (λ e. UnfitAs first e.0)) }
+    ensures unwritten { IfErr result (λ e. e.0 ≢ faults.Device → KeepsDevice D.gives D.sector_count D.changes_of D.fault_count device e.1) }
 {
     match start(alloc, device) {
         Ok(started) => {

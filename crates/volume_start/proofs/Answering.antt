@@ -1,7 +1,8 @@
 -- What a start answers, by what both mounts do.
-use Rattle.std.proofs.Common.{◌≡◌, ℕ, List, length, Option, Some, None, Result, Ok, Err, refl, sym, ap, subst, ◌∙◌, inl, inr}
-use Rattle.std.specs.Prelude.{IfSome, IfOk}
+use Rattle.std.proofs.Common.{◌≡◌, ℕ, List, length, Option, Some, None, Result, Ok, Err, refl, sym, ap, subst, ◌∙◌, inl, inr, arith}
+use Rattle.std.specs.Prelude.{◌≢◌, IfSome, IfOk, IfErr, IsErrOf}
 use Rattle.host_base.specs.Answers.{ExplainsOrFails}
+use Rattle.disk_model.specs.declared.block.Block.{Block}
 use Rattle.disk_model.specs.Sectors.{sector_of}
 use Rattle.disk_model.specs.Content.{content_of}
 use Rattle.sector_device.specs.Disks.{IsSettled}
@@ -28,15 +29,16 @@ use Rattle.txn_state.specs.States.{StateOf}
 use Rattle.txn_mount.specs.declared.fault.StoreFault.{StoreFault}
 use Rattle.txn_mount.specs.declared.fault.StoreFault.TheVariants as stores
 use Rattle.txn_mount.specs.Faults.{store_cause}
+use Rattle.txn_mount.specs.Mounts.{StopsMount}
 use Rattle.mounted_states.specs.safe_blocks.Safe.{MountsHoldStates}
 use Rattle.mounted_states.proofs.Opened.{mounted_parts, on_sectors}
 use Rattle.volume_start.specs.declared.fault.StartFault.{StartFault}
-use Rattle.volume_start.specs.declared.fault.StartFault.TheVariants.{Refused, Device}
+use Rattle.volume_start.specs.declared.fault.StartFault.TheVariants.{Refused, Device, Unfit}
 use Rattle.volume_start.specs.declared.plan.StartPlan.{StartPlan}
 use Rattle.volume_start.specs.Faults.{start_fault, fault_of_store}
 use Rattle.volume_start.specs.Fitting.{FitsStart}
 use Rattle.volume_start.specs.Plans.{PlansFrom, PlansOn}
-use Rattle.volume_start.specs.Starts.{StartsOn, BeginsAnywhere, RefusesAs, IsInMemory}
+use Rattle.volume_start.specs.Starts.{StartsOn, BeginsAnywhere, RefusesAs, UnfitAs, IsUnfit, IsInMemory}
 use Rattle.volume_start.proofs.Beginning.{Meant, meant_by, map_of_meant}
 
 -- ---- refusals
@@ -99,6 +101,28 @@ module _ (law : MountsHoldStates) (first : List (List ℕ)) (plan : StartPlan) (
   store_refuses stores.Memory is refusal same = absurd cc
   store_refuses stores.Broken is refusal same = absurd cc
 
+-- ---- a volume that can't be changed
+
+-- no fault of the volume's mount says so
+pub mount_fits : (first : List (List ℕ)) (fault : MountFault) → UnfitAs first (start_fault fault)
+mount_fits first (mounts.Refused r) same = absurd cc
+mount_fits first mounts.Device same = absurd cc
+mount_fits first mounts.Memory same = absurd cc
+
+-- nor one of the store's
+pub store_fits : (first : List (List ℕ)) (fault : StoreFault) → UnfitAs first (fault_of_store fault)
+store_fits first (stores.Refused r) same = absurd cc
+store_fits first stores.Fault same = absurd cc
+store_fits first stores.Memory same = absurd cc
+store_fits first stores.Broken same = absurd cc
+
+-- a plan that isn't made of a mounted volume says it of that one
+pub unfit_on : (known : Option (List (List ℕ))) (mounted : Mounted) (r : Result StartPlan StartFault) → IfSome known (λ first. MountsAs (content_of (sector_of first)) (mounted_of first) (Ok mounted)) → (IsErrOf r Unfit → IsUnfit mounted)
+    → IfSome known (λ first. IfErr r (UnfitAs first))
+unfit_on None mounted r mounts unfit = tt
+unfit_on (Some first) mounted (Ok p) mounts unfit = tt
+unfit_on (Some first) mounted (Err e) mounts unfit = λ is. (mounted, mounts, unfit (ap (λ (x : StartFault). Err x) is))
+
 -- ---- failures
 
 -- a failure of the device is one of the store's mount
@@ -114,6 +138,17 @@ mount_fails (mounts.Refused r) is = absurd cc
 mount_fails mounts.Memory is = absurd cc
 
 -- ---- behind a device that was only read
+
+-- of a store's mount that fails in no call of the device
+pub store_reads : {D : Type 0} (gives : D → Option (List (List ℕ))) (count : D → ℕ) (changes : D → Changes) (faults moment : D → ℕ) (place : LogPlace) (kept : List Block) (why : StoreFault) (e : StartFault) (old new : D) → e ≡ fault_of_store why
+    → StopsMount gives count changes faults moment place kept why old new → e ≢ Device → KeepsDevice gives count changes faults old new
+store_reads gives count changes faults moment place kept why e old new same (inl keeps) other = keeps
+store_reads gives count changes faults moment place kept why e old new same (inr (is, _, _, _)) other = absurd (other (same ∙ ap fault_of_store is))
+
+-- so it stays behind both
+pub keeps_both : {D : Type 0} (gives : D → Option (List (List ℕ))) (count : D → ℕ) (changes : D → Changes) (faults : D → ℕ) (old mid new : D) → KeepsDevice gives count changes faults old mid → KeepsDevice gives count changes faults mid new
+    → KeepsDevice gives count changes faults old new
+keeps_both gives count changes faults old mid new first then = record { same = then.same ∙ first.same; sectors = then.sectors ∙ first.sectors; unchanged = then.unchanged ∙ first.unchanged; later = omega (arith, first.later, then.later) }
 
 pub starts_behind : {D : Type 0} (gives : D → Option (List (List ℕ))) (count : D → ℕ) (changes : D → Changes) (faults : D → ℕ) (old mid new : D) (state : StateOf) (p : MapParts) (table : List ℕ) (s : VolumeStreams) → KeepsDevice gives count changes faults old mid
     → StartsOn gives count changes mid new state p table s → StartsOn gives count changes old new state p table s

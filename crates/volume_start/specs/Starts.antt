@@ -1,5 +1,7 @@
 -- A volume that is started.
 use Rattle.std.specs.Prelude.{◌≡◌, ◌≢◌, ◌⊎◌, ℕ, ◌*◌, ◌^◌, ◌≤◌, false, List, length, Option, Some, None, Ok, Err, IfSome}
+use Rattle.disk_model.specs.Sectors.{sector_of}
+use Rattle.disk_model.specs.Content.{content_of}
 use Rattle.sector_device.specs.Disks.{IsSettled}
 use Rattle.sector_device.specs.Moments.{Changes}
 use Rattle.state_model.specs.declared.stream.Extents.{Extents}
@@ -13,6 +15,7 @@ use Rattle.mounted_states.specs.image_open.declared.refusal.Refusal.{Refusal}
 use Rattle.mounted_states.specs.image_open.LogPlaces.{LieAlike}
 use Rattle.mounted_states.specs.image_open.Writing.{found_by}
 use Rattle.mounted_states.specs.volume_mount.declared.mounted.Mounted.{Mounted}
+use Rattle.mounted_states.specs.volume_mount.Answers.{MountsAs}
 use Rattle.mounted_states.specs.volume_mount.Mounts.{MountedVolume, upper_in, mounted_of}
 use Rattle.txn_mount.specs.Mounts.{StaysRecovered}
 use Rattle.txn_state.specs.States.{StateOf, facts_of}
@@ -54,6 +57,10 @@ pub record BeginsAnywhere (before now : Option (List (List ℕ))) (state : State
 -- a mount of its log would leave a body that recovery found, or the bits of its clusters don't lie in clusters
 abbrev pub IsUnfit : Mounted → Type 0
 IsUnfit mounted = (length mounted.opening.found.written.items ≢ length mounted.opening.found.recovered.blocks.bodies.items) ⊎ ((bitmap : Extents) → HasPlacedBits (volume_in mounted.map) bitmap → ⊥)
+
+-- it is answered of sectors that mount as such a volume
+abbrev pub UnfitAs : List (List ℕ) → StartFault → Type 0
+UnfitAs first fault = fault ≡ Unfit → (mounted : Mounted) × MountsAs (content_of (sector_of first)) (mounted_of first) (Ok mounted) × IsUnfit mounted
 
 -- it is no refusal, and no failure of a device
 abbrev pub IsInMemory : StartFault → Type 0

@@ -7,7 +7,7 @@ ghost use Rattle.mounted_states.specs.map_change.Parts.{geometry_in};
 ghost use Rattle.mounted_states.specs.map_change.Plain.{is_plain};
 ghost use Rattle.mounted_states.specs.image_open.Writing.{found_by};
 ghost use Rattle.volume_start.specs.Plans.{PlansFrom, PlansOn, FitsPlan};
-ghost use Rattle.volume_start.specs.Starts.{RefusesAs, IsUnfit, IsInMemory};
+ghost use Rattle.volume_start.specs.Starts.{RefusesAs, UnfitAs, IsUnfit, IsInMemory};
 
 use crate::fault::StartFault;
 use crate::fitting::fits_start;
@@ -133,6 +133,7 @@ pub fn prepare<D: Device>(alloc: Global, device: &mut D) -> Result<StartPlan, St
     ensures on { IfSome (D.gives device.old) (λ first. IfOk result (PlansOn first)) }
     ensures fits { IfOk result (FitsPlan (D.sector_count device.old)) }
     ensures refused { IfSome (D.gives device.old) (λ first. IfErr result (RefusesAs first)) }
+    ensures unfit { IfSome (D.gives device.old) (λ first. IfErr result (UnfitAs first)) }
     ensures kept { KeepsDevice D.gives D.sector_count D.changes_of D.fault_count device.old device.new }
     ensures fault { IsErrOf result StartFault.Device → HasFailed (D.fault_count device.old) (D.fault_count device.new) (D.moment_of device.new) }
 {

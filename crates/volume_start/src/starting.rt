@@ -1,11 +1,12 @@
 //! A volume is started.
-ghost use Rattle.std.specs.Prelude.{◌≡◌, length, IfOk, IfErr, IfSome};
+ghost use Rattle.std.specs.Prelude.{◌≡◌, ◌≢◌, length, IfOk, IfErr, IfSome};
 ghost use Rattle.host_base.specs.Causes.{HasFailed};
+ghost use Rattle.device_view.specs.Devices.{KeepsDevice};
 ghost use Rattle.mounted_states.specs.map_change.Parts.{live_parts};
 ghost use Rattle.mounted_states.specs.volume_tree.Named.{AreNamesOf};
 ghost use Rattle.volume_start.specs.Faults.{device_behind};
 ghost use Rattle.volume_start.specs.Plans.{PlansOn, FitsPlan};
-ghost use Rattle.volume_start.specs.Starts.{StartsOn, BeginsAnywhere, RefusesAs};
+ghost use Rattle.volume_start.specs.Starts.{StartsOn, BeginsAnywhere, RefusesAs, UnfitAs};
 ghost use Rattle.volume_start.specs.declared.fault.StartFault.TheVariants as faults;
 
 use crate::fault::StartFault;
@@ -52,6 +53,8 @@ fn begin<D: Device>(
     ensures sectors { D.sector_count (device_behind result (λ s. s.store.device)) ≡ D.sector_count device }
     ensures fault { IfErr result (λ e. e.0 ≡ faults.Device → HasFailed (D.fault_count device) (D.fault_count e.1) (D.moment_of e.1)) }
     ensures refused { IfSome (D.gives device) (λ first. IfErr result (λ e. RefusesAs first e.0)) }
+    ensures unfit { IfSome (D.gives device) (λ first. IfErr result (λ e. UnfitAs first e.0)) }
+    ensures unwritten { IfErr result (λ e. e.0 ≢ faults.Device → KeepsDevice D.gives D.sector_count D.changes_of D.fault_count device e.1) }
 {
     all_put_out();
     found_lie_off();
@@ -109,6 +112,8 @@ pub fn start<D: Device>(alloc: Global, mut device: D) -> Result<Started<D>, (Sta
     ensures sectors { D.sector_count (device_behind result (λ s. s.store.device)) ≡ D.sector_count device }
     ensures fault { IfErr result (λ e. e.0 ≡ faults.Device → HasFailed (D.fault_count device) (D.fault_count e.1) (D.moment_of e.1)) }
     ensures refused { IfSome (D.gives device) (λ first. IfErr result (λ e. RefusesAs first e.0)) }
+    ensures unfit { IfSome (D.gives device) (λ first. IfErr result (λ e. UnfitAs first e.0)) }
+    ensures unwritten { IfErr result (λ e. e.0 ≢ faults.Device → KeepsDevice D.gives D.sector_count D.changes_of D.fault_count device e.1) }
 {
     match prepare(alloc, &mut device) {
         Ok(plan) => begin(alloc, device, plan),
