@@ -131,8 +131,7 @@ impl<D: Device> AheadDevice<D> {
         ensures word { IfOk result (λ word. IfSome (D.gives self.old.device) (IsToldOf word block)) }
         ensures fit { IfOk result IsFitWord }
         ensures not_asked { D.sector_count self.old.device ≤ block.first → D.moment_of self.new.device ≡ D.moment_of self.old.device }
-        ensures kept { KeepsDevice D.gives D.sector_count D.changes_of D.fault_count self.old.device self.new.device }
-        ensures later { D.moment_of self.old.device ≤ D.moment_of self.new.device }
+        ensures kept { KeepsDevice D.gives D.sector_count D.changes_of D.fault_count D.moment_of self.old.device self.new.device }
         ensures one_call { D.moment_of self.new.device ≤ D.moment_of self.old.device + 2 }
         ensures cause { FailsByCause (D.fault_count self.old.device) (D.fault_count self.new.device) (D.moment_of self.new.device) result }
     {

@@ -71,8 +71,7 @@ impl ReadAhead {
         requires held { IsHeld self.old.piece room.old (D.gives device.old) }
         ensures loaded { OnOk result (self.new.piece ≡ Some piece) }
         ensures held { IsHeld self.new.piece room.new (D.gives device.new) }
-        ensures kept { KeepsDevice D.gives D.sector_count D.changes_of D.fault_count device.old device.new }
-        ensures later { D.moment_of device.old ≤ D.moment_of device.new }
+        ensures kept { KeepsDevice D.gives D.sector_count D.changes_of D.fault_count D.moment_of device.old device.new }
         ensures one_call { D.moment_of device.new ≤ D.moment_of device.old + 2 }
         ensures cause { FailsByCause (D.fault_count device.old) (D.fault_count device.new) (D.moment_of device.new) result }
     {
@@ -100,8 +99,7 @@ impl ReadAhead {
         ensures bytes { OnOk result (IfSome (D.gives device.old) (λ disk. raw.new ≡ raw_from (sector_of disk) first (length raw.old / 512))) }
         ensures not_asked { D.sector_count device.old ≤ first → D.moment_of device.new ≡ D.moment_of device.old }
         ensures held { IsHeld self.new.piece room.new (D.gives device.new) }
-        ensures kept { KeepsDevice D.gives D.sector_count D.changes_of D.fault_count device.old device.new }
-        ensures later { D.moment_of device.old ≤ D.moment_of device.new }
+        ensures kept { KeepsDevice D.gives D.sector_count D.changes_of D.fault_count D.moment_of device.old device.new }
         ensures one_call { D.moment_of device.new ≤ D.moment_of device.old + 2 }
         ensures cause { FailsByCause (D.fault_count device.old) (D.fault_count device.new) (D.moment_of device.new) result }
     {
@@ -133,8 +131,7 @@ impl ReadAhead {
         ensures size { OnOk result (length out.new.bytes ≡ 512 * sectors block.kind) }
         ensures not_asked { D.sector_count device.old ≤ block.first → D.moment_of device.new ≡ D.moment_of device.old }
         ensures held { IsHeld self.new.piece room.new (D.gives device.new) }
-        ensures kept { KeepsDevice D.gives D.sector_count D.changes_of D.fault_count device.old device.new }
-        ensures later { D.moment_of device.old ≤ D.moment_of device.new }
+        ensures kept { KeepsDevice D.gives D.sector_count D.changes_of D.fault_count D.moment_of device.old device.new }
         ensures one_call { D.moment_of device.new ≤ D.moment_of device.old + 2 }
         ensures cause { FailsByCause (D.fault_count device.old) (D.fault_count device.new) (D.moment_of device.new) result }
     {
@@ -163,8 +160,7 @@ impl ReadAhead {
         ensures size { OnOk result (length out.new.bytes ≡ 512 * sectors block.kind) }
         ensures not_asked { D.sector_count device.old ≤ block.first → D.moment_of device.new ≡ D.moment_of device.old }
         ensures held { IsHeld self.new.piece room.new (D.gives device.new) }
-        ensures kept { KeepsDevice D.gives D.sector_count D.changes_of D.fault_count device.old device.new }
-        ensures later { D.moment_of device.old ≤ D.moment_of device.new }
+        ensures kept { KeepsDevice D.gives D.sector_count D.changes_of D.fault_count D.moment_of device.old device.new }
         ensures one_call { D.moment_of device.new ≤ D.moment_of device.old + 2 }
         ensures cause { FailsByCause (D.fault_count device.old) (D.fault_count device.new) (D.moment_of device.new) result }
     {

@@ -26,7 +26,7 @@ fn read_device<D: Device, R: ViewReader>(
     reader: &R,
 ) -> Result<R::Answer, MountFault>
     ensures answer { IfSome (D.gives device.old) (λ disk. GivesOrFails R.shown scan_cause result (R.meant reader.now (content_of (sector_of disk)) sectors)) }
-    ensures kept { KeepsDevice D.gives D.sector_count D.changes_of D.fault_count device.old device.new }
+    ensures kept { KeepsDevice D.gives D.sector_count D.changes_of D.fault_count D.moment_of device.old device.new }
     ensures fault { IsErrOf result MountFault.Device → HasFailed (D.fault_count device.old) (D.fault_count device.new) (D.moment_of device.new) }
     ensures counted { D.moment_of device.old < last_moment → CountsOnDevice scan_cause (D.fault_count device.old) (D.fault_count device.new) (D.moment_of device.new) result }
 {
@@ -48,7 +48,7 @@ pub fn with_view<D: Device, R: ViewReader>(
     reader: &R,
 ) -> Result<R::Answer, MountFault>
     ensures answer { IfSome (D.gives device.old) (λ disk. GivesOrFails R.shown scan_cause result (on_disk (R.meant reader.now) disk)) }
-    ensures kept { KeepsDevice D.gives D.sector_count D.changes_of D.fault_count device.old device.new }
+    ensures kept { KeepsDevice D.gives D.sector_count D.changes_of D.fault_count D.moment_of device.old device.new }
     ensures fault { IsErrOf result MountFault.Device → HasFailed (D.fault_count device.old) (D.fault_count device.new) (D.moment_of device.new) }
     ensures counted { D.moment_of device.old < last_moment → CountsOnDevice scan_cause (D.fault_count device.old) (D.fault_count device.new) (D.moment_of device.new) result }
     ensures none { D.sector_count device.old ≡ 0 → result ≡ Err (MountFault.Refused (Refusal.Short 1 0)) }
@@ -139,7 +139,7 @@ pub fn with_volume<D: Device, R: VolumeReader>(
     reader: &R,
 ) -> Result<R::Answer, MountFault>
     ensures answer { IfSome (D.gives device.old) (λ disk. GivesOrFails R.shown scan_cause result (on_disk (in_volume (R.meant reader.now)) disk)) }
-    ensures kept { KeepsDevice D.gives D.sector_count D.changes_of D.fault_count device.old device.new }
+    ensures kept { KeepsDevice D.gives D.sector_count D.changes_of D.fault_count D.moment_of device.old device.new }
     ensures fault { IsErrOf result MountFault.Device → HasFailed (D.fault_count device.old) (D.fault_count device.new) (D.moment_of device.new) }
     ensures counted { D.moment_of device.old < last_moment → CountsOnDevice scan_cause (D.fault_count device.old) (D.fault_count device.new) (D.moment_of device.new) result }
     ensures none { D.sector_count device.old ≡ 0 → result ≡ Err (MountFault.Refused (Refusal.Short 1 0)) }

@@ -260,7 +260,7 @@ pub fn recover<D: Device>(
     requires place { IsLogPlace place.now }
     ensures answer { IfSome (D.gives device.old) (λ disk. RecoversLog (content_of (sector_of disk)) (recovery_in (content_of (sector_of disk)) place.now) result) }
     ensures sized { IfOk result (λ found. All IsSized found.blocks.bodies.items) }
-    ensures kept { KeepsDevice D.gives D.sector_count D.changes_of D.fault_count device.old device.new }
+    ensures kept { KeepsDevice D.gives D.sector_count D.changes_of D.fault_count D.moment_of device.old device.new }
     ensures fault { IsErrOf result RecoveryFault.Fault → HasFailed (D.fault_count device.old) (D.fault_count device.new) (D.moment_of device.new) }
     ensures counted { D.moment_of device.old < last_moment → CountsOnDevice recovery_cause (D.fault_count device.old) (D.fault_count device.new) (D.moment_of device.new) result }
 {

@@ -13,7 +13,7 @@ use Rattle.fixup_record.specs.Spellings.{has_spelling}
 use Rattle.sector_device.specs.Moments.{Changes}
 use Rattle.sector_device.specs.Sectors.{IsDiskOf}
 use Rattle.block_view.specs.Changes.{content_after}
-use Rattle.turn_laws.specs.device_view.Devices.{CountsOnDevice, CountsCauseOnDevice}
+use Rattle.turn_laws.specs.device_view.Devices.{GoesOnwards, CountsOnDevice, CountsCauseOnDevice}
 use Rattle.turn_laws.specs.log_page.declared.places.LogPlace.{LogPlace}
 use Rattle.same_names.specs.map_change.Parts.{MapParts, map_of}
 use Rattle.turn_laws.specs.txn_model.Values.{StoreFacts}
@@ -221,9 +221,10 @@ change_counts failure why before now moment is counts = subst (λ (e : PutFault)
 pub broken_since : (result : Result (Unit {0}) PutFault) (given gives : Option (List (List ℕ))) → given ≡ gives → IsUnknownWhereBroken result given → IsUnknownWhereBroken result gives
 broken_since result given gives same is = subst (λ (o : Option (List (List ℕ))). IsUnknownWhereBroken result o) same is
 
-pub causes_since : {D : Type 0} (faults moment : D → ℕ) (result : Result (Unit {0}) PutFault) (old mid new : Seen D) → faults old.device ≤ faults mid.device → (moment old.device < last_moment → faults mid.device ≡ faults old.device)
-    → CountsOnDevice put_cause (faults mid.device) (faults new.device) (moment new.device) result → HasPutCauses faults moment result old new
-causes_since {D} faults moment result old mid new later same counts = record {
+pub causes_since : {D : Type 0} (faults moment : D → ℕ) (result : Result (Unit {0}) PutFault) (old mid new : Seen D) → faults old.device ≤ faults mid.device → moment old.device ≤ moment mid.device → (moment old.device < last_moment → faults mid.device ≡ faults old.device)
+    → GoesOnwards faults moment mid.device new.device → CountsOnDevice put_cause (faults mid.device) (faults new.device) (moment new.device) result → HasPutCauses faults moment result old new
+causes_since {D} faults moment result old mid new later onwards same then counts = record {
+  onwards = record { later = omega (arith, later, then.later); onwards = omega (arith, onwards, then.onwards) };
   failed = by result counts;
   counted = λ early. subst (λ (n : ℕ). CountsOnDevice put_cause n (faults new.device) (moment new.device) result) (same early) counts;
 }
@@ -232,9 +233,9 @@ causes_since {D} faults moment result old mid new later same counts = record {
     by (Ok tt) c = tt
     by (Err failure) c = λ is. failed_since (faults old.device) (faults mid.device) (faults new.device) (moment new.device) later (subst (λ (e : PutFault). CountsCauseOnDevice (faults mid.device) (faults new.device) (moment new.device) (put_cause e)) is c)
 
-pub causes_of : {D X : Type 0} (faults moment : D → ℕ) (failure : PutFault) (old new : Seen D) → (IsErrOf {T = X} (Err failure) Fault → HasFailed (faults old.device) (faults new.device) (moment new.device))
+pub causes_of : {D X : Type 0} (faults moment : D → ℕ) (failure : PutFault) (old new : Seen D) → faults old.device ≤ faults new.device → moment old.device ≤ moment new.device → (IsErrOf {T = X} (Err failure) Fault → HasFailed (faults old.device) (faults new.device) (moment new.device))
     → (moment old.device < last_moment → CountsOnDevice {T = X} put_cause (faults old.device) (faults new.device) (moment new.device) (Err failure)) → HasPutCauses faults moment (Err failure) old new
-causes_of {D} {X} faults moment failure old new failed counted = record { failed = λ is. failed (ap (λ (e : PutFault). Err e) is); counted = counted }
+causes_of {D} {X} faults moment failure old new later onwards failed counted = record { onwards = record { later = later; onwards = onwards }; failed = λ is. failed (ap (λ (e : PutFault). Err e) is); counted = counted }
 
 -- ---- room
 
@@ -261,6 +262,7 @@ lacks_broken failure meant gives is = λ broken. absurd ((never_broken failure m
 
 pub lacks_causes : {D : Type 0} (faults moment : D → ℕ) (failure : PutFault) (meant : Result (Unit {0}) Shortage) (s : Seen D) → Gives {X = Unit {0}} (λ u. u) room_cause (Err failure) meant → HasPutCauses faults moment (Err failure) s s
 lacks_causes {D} faults moment failure meant s is = record {
+  onwards = record { later = omega arith; onwards = omega arith };
   failed = λ failed. absurd ((never_broken failure meant is).1 failed);
   counted = λ early. lacks_cause failure (faults s.device) (moment s.device) meant is;
 }

@@ -26,18 +26,18 @@ use Rattle.state_store.specs.Puts.{put_cause}
 -- ---- the store behind a view
 
 of_device : BorrowedStore → BorrowedDevice
-of_device b = record { reference = b.reference; gives = b.gives; sectors = b.sectors; changes = b.changes; faults_before = b.faults_before }
+of_device b = record { reference = b.reference; gives = b.gives; sectors = b.sectors; changes = b.changes; faults_before = b.faults_before; moment_before = b.moment_before }
 
 -- What the view says of its failures, the store's device says of its own.
-pub store_failed : {D : Type 0} (gives : D → Option (List (List ℕ))) (count : D → ℕ) (changes : D → Changes) (faults moment : D → ℕ) (old last x : Seen D) (given reference before first : ℕ)
-    → borrowed_store gives count changes reference last before ≡ borrowed_store gives count changes given old (faults old.device) → failures (faults old.device) (moment old.device) ≤ first → Rose first (failures (faults last.device) (moment last.device)) → (given ≡ reference → x ≡ last)
+pub store_failed : {D : Type 0} (gives : D → Option (List (List ℕ))) (count : D → ℕ) (changes : D → Changes) (faults moment : D → ℕ) (old last x : Seen D) {began : ℕ} (given reference before first : ℕ)
+    → borrowed_store gives count changes reference last before began ≡ borrowed_store gives count changes given old (faults old.device) (moment old.device) → failures (faults old.device) (moment old.device) ≤ first → Rose first (failures (faults last.device) (moment last.device)) → (given ≡ reference → x ≡ last)
     → FailsSeen faults moment old x
 unfolding of_device
 store_failed {D} gives count changes faults moment old last x given reference before first kept more rose ended =
     record { failed = device_failed gives count changes faults moment old.device last.device x.device given reference before first (ap of_device kept) more rose (λ is. ap (λ (s : Seen D). s.device) (ended is)) }
 
-pub store_counts : {D T E F : Type 0} (cause : E → Cause F) (result : Result T E) (gives : D → Option (List (List ℕ))) (count : D → ℕ) (changes : D → Changes) (faults moment : D → ℕ) (old last x : Seen D) (given reference before first : ℕ)
-    → borrowed_store gives count changes reference last before ≡ borrowed_store gives count changes given old (faults old.device) → first ≡ failures (faults old.device) (moment old.device) → before ≤ faults last.device
+pub store_counts : {D T E F : Type 0} (cause : E → Cause F) (result : Result T E) (gives : D → Option (List (List ℕ))) (count : D → ℕ) (changes : D → Changes) (faults moment : D → ℕ) (old last x : Seen D) {began : ℕ} (given reference before first : ℕ)
+    → borrowed_store gives count changes reference last before began ≡ borrowed_store gives count changes given old (faults old.device) (moment old.device) → first ≡ failures (faults old.device) (moment old.device) → before ≤ faults last.device
     → Counts cause first (failures (faults last.device) (moment last.device)) result → (given ≡ reference → x ≡ last) → CountsSeen faults moment cause result old x
 unfolding of_device
 store_counts {D} cause result gives count changes faults moment old last x given reference before first kept is more counts ended = record {

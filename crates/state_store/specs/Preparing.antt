@@ -15,13 +15,14 @@ use Rattle.state_store.specs.declared.fault.PutFault.TheVariants.{NeedsRoom, Fau
 use Rattle.state_store.specs.Volumes.{geometry_of}
 
 -- The store's device was only read, and what it holds in memory stays.
-pub record KeepsSeen {D : Type 0} (gives : D → Option (List (List ℕ))) (count : D → ℕ) (changes : D → Changes) (faults : D → ℕ) (old new : Seen D) : Type 0 where
+pub record KeepsSeen {D : Type 0} (gives : D → Option (List (List ℕ))) (count : D → ℕ) (changes : D → Changes) (faults moment : D → ℕ) (old new : Seen D) : Type 0 where
   pub state : new.state ≡ old.state
   pub words : new.words ≡ old.words
   pub same : gives new.device ≡ gives old.device
   pub sectors : count new.device ≡ count old.device
   pub unchanged : changes new.device ≡ changes old.device
   pub later : faults old.device ≤ faults new.device
+  pub onwards : moment old.device ≤ moment new.device
 
 -- The device of a store failed in a call; and a failure has its cause, where the device's last moment had not come before.
 pub record FailsSeen {D : Type 0} (faults moment : D → ℕ) (old new : Seen D) : Type 0 where

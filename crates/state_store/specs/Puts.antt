@@ -7,7 +7,7 @@ use Rattle.disk_model.specs.declared.block.Change.{Change}
 use Rattle.disk_model.specs.Content.{Content}
 use Rattle.sector_device.specs.Moments.{Changes}
 use Rattle.block_view.specs.Changes.{content_after}
-use Rattle.turn_laws.specs.device_view.Devices.{CountsOnDevice}
+use Rattle.turn_laws.specs.device_view.Devices.{GoesOnwards, CountsOnDevice}
 use Rattle.same_names.specs.map_change.Parts.{MapParts, map_of}
 use Rattle.turn_laws.specs.txn_core.declared.fault.ChangeFault.{ChangeFault}
 use Rattle.turn_laws.specs.txn_core.declared.fault.ChangeFault.TheVariants as faults
@@ -79,7 +79,8 @@ abbrev pub IsUnknownWhereBroken : {X : Type 0} → Result X PutFault → Option 
 IsUnknownWhereBroken (Ok x) gives = ⊤
 IsUnknownWhereBroken (Err why) gives = why ≡ Broken → gives ≡ None
 
--- A fault of the device comes only where this failed; and where its last moment had not come before, no failure is passed over.
+-- The device's counts don't fall. A fault of the device comes only where this failed; and where its last moment had not come before, no failure is passed over.
 pub record HasPutCauses {D : Type 0} (faults moment : D → ℕ) (result : Result (Unit {0}) PutFault) (old new : Seen D) : Type 0 where
+  pub onwards : GoesOnwards faults moment old.device new.device
   pub failed : IfErr result (λ why. why ≡ Fault → HasFailed (faults old.device) (faults new.device) (moment new.device))
   pub counted : moment old.device < last_moment → CountsOnDevice put_cause (faults old.device) (faults new.device) (moment new.device) result

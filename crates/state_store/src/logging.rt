@@ -1,6 +1,6 @@
 //! Changes of blocks in one transaction.
 ghost use Rattle.std.specs.Prelude.{◌≡◌, ◌^◌, ◌<◌, true, false, [], All, OnOk, IfErr, IfSome, None};
-ghost use Rattle.turn_laws.specs.device_view.Devices.{CountsOnDevice};
+ghost use Rattle.turn_laws.specs.device_view.Devices.{GoesOnwards, CountsOnDevice};
 ghost use Rattle.turn_laws.specs.txn_log.Laws.{HasRoom};
 ghost use Rattle.turn_laws.specs.txn_state.States.{facts_of};
 ghost use Rattle.turn_laws.specs.txn_core.declared.fault.ChangeFault.TheVariants.{Unspelled};
@@ -35,6 +35,7 @@ fn change_all<D: Device>(
     ensures gives { D.gives store.new.device ≡ D.gives store.old.device }
     ensures changes { D.changes_of store.new.device ≡ D.changes_of store.old.device }
     ensures sectors { D.sector_count store.new.device ≡ D.sector_count store.old.device }
+    ensures onwards { GoesOnwards D.fault_count D.moment_of store.old.device store.new.device }
     ensures cause { CountsOnDevice change_cause (D.fault_count store.old.device) (D.fault_count store.new.device) (D.moment_of store.new.device) result }
     ensures windows { LeadsTo (D.changes_of store.old.device) (facts_of store.old.state) (facts_of store.new.state) (AfterLogging result changes.now) }
 {
@@ -75,6 +76,7 @@ pub fn log_changes<D: Device>(
     ensures gives { D.gives store.new.device ≡ D.gives store.old.device }
     ensures changes { D.changes_of store.new.device ≡ D.changes_of store.old.device }
     ensures sectors { D.sector_count store.new.device ≡ D.sector_count store.old.device }
+    ensures onwards { GoesOnwards D.fault_count D.moment_of store.old.device store.new.device }
     ensures cause { CountsOnDevice change_cause (D.fault_count store.old.device) (D.fault_count store.new.device) (D.moment_of store.new.device) result }
     ensures windows { LeadsTo (D.changes_of store.old.device) (facts_of store.old.state) (facts_of store.new.state) (AfterCommitted result changes.now) }
 {

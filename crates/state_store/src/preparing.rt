@@ -37,7 +37,7 @@ fn prepare_through<D: Device>(
         → GivesOrFails (λ change. applied change (live_parts live.old)) map_cause result (map_of (content_after changes.now c) (geometry_of (live_parts live.old)) (live_parts live.old).volume.clusters)) }
     ensures stays { live_parts live.new ≡ live_parts live.old }
     ensures room { IfOk result (HasRoom live.new) }
-    ensures kept { KeepsSeen D.gives D.sector_count D.changes_of D.fault_count store.old store.new }
+    ensures kept { KeepsSeen D.gives D.sector_count D.changes_of D.fault_count D.moment_of store.old store.new }
     ensures fault { IsErrOf result MapFault.View → FailsSeen D.fault_count D.moment_of store.old store.new }
     ensures counted { CountsSeen D.fault_count D.moment_of map_cause result store.old store.new }
 {
@@ -86,7 +86,7 @@ pub fn prepare_changes<D: Device>(
     ensures names { IfOk result (λ change. SameNames (live_parts live.old).volume.files (applied change (live_parts live.old)).volume.files) }
     ensures stays { live_parts live.new ≡ live_parts live.old }
     ensures room { IfOk result (HasRoom live.new) }
-    ensures kept { KeepsSeen D.gives D.sector_count D.changes_of D.fault_count store.old store.new }
+    ensures kept { KeepsSeen D.gives D.sector_count D.changes_of D.fault_count D.moment_of store.old store.new }
     ensures short { NeverShort result }
     ensures broken { IfErr result (λ fault. fault ≡ Broken → D.gives store.old.device ≡ None) }
     ensures fault { IsErrOf result PutFault.Fault → HasFailed (D.fault_count store.old.device) (D.fault_count store.new.device) (D.moment_of store.new.device) }

@@ -2,7 +2,7 @@
 ghost use Rattle.std.specs.Prelude.{◌≡◌, ◌^◌, ◌<◌, false, All, IfErr, IfSome, None, Ok, OnOk, length};
 ghost use Rattle.host_base.specs.Answers.{GivesOrFails};
 ghost use Rattle.block_view.specs.Changes.{Fits, content_after};
-ghost use Rattle.turn_laws.specs.device_view.Devices.{CountsOnDevice};
+ghost use Rattle.turn_laws.specs.device_view.Devices.{GoesOnwards, CountsOnDevice};
 ghost use Rattle.same_names.specs.map_change.Parts.{live_parts, map_of};
 ghost use Rattle.same_names.specs.map_change.Applying.{applied, HasRoom as HasMapRoom};
 ghost use Rattle.same_names.specs.Names.{SameNames};
@@ -60,6 +60,7 @@ fn put_prepared<D: Device>(
     ensures laid { OnOk result (live_parts live.new ≡ applied change (live_parts live.old)) }
     ensures sectors { D.sector_count store.new.device ≡ D.sector_count store.old.device }
     ensures unspelled { IfErr result (λ fault. fault ≡ Unspelled → D.gives store.old.device ≡ None) }
+    ensures onwards { GoesOnwards D.fault_count D.moment_of store.old.device store.new.device }
     ensures cause { CountsOnDevice change_cause (D.fault_count store.old.device) (D.fault_count store.new.device) (D.moment_of store.new.device) result }
 {
     store.state().known();
@@ -94,6 +95,7 @@ fn put_as<D: Device>(
     ensures sectors { D.sector_count store.new.device ≡ D.sector_count store.old.device }
     ensures short { NeverShort result }
     ensures broken { IsUnknownWhereBroken result (D.gives store.old.device) }
+    ensures onwards { GoesOnwards D.fault_count D.moment_of store.old.device store.new.device }
     ensures cause { CountsOnDevice put_cause (D.fault_count store.old.device) (D.fault_count store.new.device) (D.moment_of store.new.device) result }
 {
     match put_prepared(store, live, alloc, changes, change) {

@@ -25,7 +25,7 @@ abbrev pub KeepsSizes : StateOf → Type 0
 KeepsSizes state = (b : Block) (x : Body) → (facts_of state).body b ≡ Some x → HasSize b x
 
 -- What stays of a store that is borrowed: the reference to it, what it holds in memory, what it knows of check words, what its device's reads give, how many sectors there
--- are, what a crash may leave, and the count of faults before.
+-- are, what a crash may leave, and the count of faults and the moment before.
 pub record BorrowedStore : Type 0 where
   pub reference : ℕ
   pub state : StateOf
@@ -34,10 +34,11 @@ pub record BorrowedStore : Type 0 where
   pub sectors : ℕ
   pub changes : Changes
   pub faults_before : ℕ
+  pub moment_before : ℕ
 
-abbrev pub borrowed_store : {D : Type 0} → (D → Option (List (List ℕ))) → (D → ℕ) → (D → Changes) → ℕ → Seen D → ℕ → BorrowedStore
-borrowed_store gives count changes reference s before =
-    record { reference = reference; state = s.state; words = s.words; gives = gives s.device; sectors = count s.device; changes = changes s.device; faults_before = before }
+abbrev pub borrowed_store : {D : Type 0} → (D → Option (List (List ℕ))) → (D → ℕ) → (D → Changes) → ℕ → Seen D → ℕ → ℕ → BorrowedStore
+borrowed_store gives count changes reference s before began =
+    record { reference = reference; state = s.state; words = s.words; gives = gives s.device; sectors = count s.device; changes = changes s.device; faults_before = before; moment_before = began }
 
 -- The reference is the same one, and of the store behind it all stays but its device's moment, which is that of before or later, and its count of faults.
 pub record KeepsStore {D : Type 0} (gives : D → Option (List (List ℕ))) (count : D → ℕ) (changes : D → Changes) (old new : MutBor (Seen D)) : Type 0 where

@@ -5,7 +5,7 @@ ghost use Rattle.device_blocks.specs.fixup_record.Spellings.{has_spelling};
 ghost use Rattle.device_blocks.specs.disk_model.Content.{content_of};
 ghost use Rattle.device_blocks.specs.disk_model.Sectors.{sector_of, sectors};
 ghost use Rattle.txn_laws.specs.block_pool.Pools.{with_block};
-ghost use Rattle.device_blocks.specs.device_view.Devices.{CountsOnDevice};
+ghost use Rattle.device_blocks.specs.device_view.Devices.{GoesOnwards, CountsOnDevice};
 ghost use Rattle.device_blocks.specs.Words.{IsToldOf, changed_word, IsFitWord};
 ghost use Rattle.txn_state.specs.store_pools.Pools.{body_of_kept};
 ghost use Rattle.txn_laws.specs.txn_model.Calls.{changed_facts, given_up_facts};
@@ -54,7 +54,7 @@ fn read_present<D: Device>(
     ensures gives { D.gives device.new ≡ D.gives device.old }
     ensures changes { D.changes_of device.new ≡ D.changes_of device.old }
     ensures sectors { D.sector_count device.new ≡ D.sector_count device.old }
-    ensures later { D.moment_of device.old ≤ D.moment_of device.new }
+    ensures onwards { GoesOnwards D.fault_count D.moment_of device.old device.new }
     ensures cause { CountsOnDevice view_cause (D.fault_count device.old) (D.fault_count device.new) (D.moment_of device.new) result }
 {
     let mut out = Body::empty(alloc)?;
@@ -107,7 +107,7 @@ fn find_present<D: Device>(
     ensures gives { D.gives device.new ≡ D.gives device.old }
     ensures changes { D.changes_of device.new ≡ D.changes_of device.old }
     ensures sectors { D.sector_count device.new ≡ D.sector_count device.old }
-    ensures later { D.moment_of device.old ≤ D.moment_of device.new }
+    ensures onwards { GoesOnwards D.fault_count D.moment_of device.old device.new }
     ensures cause { CountsOnDevice view_cause (D.fault_count device.old) (D.fault_count device.new) (D.moment_of device.new) result }
 {
     match kept_present(state, words, alloc, block)? {
@@ -248,7 +248,7 @@ impl<D: Device> Store<D> {
         ensures gives { D.gives self.new.device ≡ D.gives self.old.device }
         ensures changes { D.changes_of self.new.device ≡ D.changes_of self.old.device }
         ensures sectors { D.sector_count self.new.device ≡ D.sector_count self.old.device }
-        ensures later { D.moment_of self.old.device ≤ D.moment_of self.new.device }
+        ensures onwards { GoesOnwards D.fault_count D.moment_of self.old.device self.new.device }
         ensures cause { CountsOnDevice change_cause (D.fault_count self.old.device) (D.fault_count self.new.device) (D.moment_of self.new.device) result }
         ensures step { TakesStep D.sector_count D.moment_of D.changes_of (AfterChanging result block at new.now) self.old self.new }
     {

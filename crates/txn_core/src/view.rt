@@ -28,8 +28,7 @@ fn show_body<D: Device>(
     ensures body { OnOk result (IfSome (D.gives device.old) (λ disk. out.new ≡ present_on disk (facts_of state.now) block)) }
     ensures size { OnOk result (length out.new.bytes ≡ 512 * sectors block.kind) }
     ensures held { IsHeld ahead.new.piece room.new (D.gives device.new) }
-    ensures kept { KeepsDevice D.gives D.sector_count D.changes_of D.fault_count device.old device.new }
-    ensures later { D.moment_of device.old ≤ D.moment_of device.new }
+    ensures kept { KeepsDevice D.gives D.sector_count D.changes_of D.fault_count D.moment_of device.old device.new }
     ensures cause { FailsByCause (D.fault_count device.old) (D.fault_count device.new) (D.moment_of device.new) result }
 {
     state.known();
@@ -79,8 +78,7 @@ impl<D: Device> Store<D> {
         ensures held { IsHeld ahead.new.piece room.new (D.gives self.new.device) }
         ensures state { self.new.state ≡ self.old.state }
         ensures words { self.new.words ≡ self.old.words }
-        ensures kept { KeepsDevice D.gives D.sector_count D.changes_of D.fault_count self.old.device self.new.device }
-        ensures later { D.moment_of self.old.device ≤ D.moment_of self.new.device }
+        ensures kept { KeepsDevice D.gives D.sector_count D.changes_of D.fault_count D.moment_of self.old.device self.new.device }
         ensures cause { FailsByCause (D.fault_count self.old.device) (D.fault_count self.new.device) (D.moment_of self.new.device) result }
     {
         show_body(&mut self.device, &self.state, ahead, room, block, out)
@@ -91,8 +89,8 @@ impl<D: Device> Store<D> {
 /// is read ahead in pieces of 128 sectors.
 ///
 /// Its failures are those of the device. While the view lives, what the store holds in memory and
-/// what a crash may leave stay, and so does each window of the store; the count of faults never
-/// falls.
+/// what a crash may leave stay, and so does each window of the store; neither the count of faults nor
+/// the moment falls.
 #[derive(Drop)]
 pub struct StoreView<'a, D: Device> {
     store: &'a mut Store<D>,
@@ -100,12 +98,14 @@ pub struct StoreView<'a, D: Device> {
     room: &'a mut [u8],
     // Which piece that is.
     ahead: ReadAhead,
-    // The device's faults when the view was made.
+    // The device's faults and its moment when the view was made.
     faults_before: u64,
+    moment_before: u64,
     ghost sized: { length room.now ≡ 65536 },
     ghost filled: { IsHeld ahead.piece room.now (D.gives store.now.device) },
     ghost bodies: { KeepsSizes store.now.state },
     pub ghost later: { faults_before ≤ D.fault_count store.now.device },
+    pub ghost onwards: { moment_before ≤ D.moment_of store.now.device },
 }
 
 impl<'a, D: Device> StoreView<'a, D> {
@@ -115,15 +115,17 @@ impl<'a, D: Device> StoreView<'a, D> {
         requires { length room.old ≡ 65536 }
         ensures content { ⟦<StoreView<'a, D> as View>⟧.content result ≡ present_content (D.gives store.entry.now.device) store.entry.now.state }
         ensures faults { ⟦<StoreView<'a, D> as View>⟧.faults result ≡ failures (D.fault_count store.entry.now.device) (D.moment_of store.entry.now.device) }
-        ensures kept { ⟦<StoreView<'a, D> as View>⟧.kept result ≡ borrowed_store D.gives D.sector_count D.changes_of store.entry.ghost_name store.entry.now (D.fault_count store.entry.now.device) }
+        ensures kept { ⟦<StoreView<'a, D> as View>⟧.kept result ≡ borrowed_store D.gives D.sector_count D.changes_of store.entry.ghost_name store.entry.now (D.fault_count store.entry.now.device) (D.moment_of store.entry.now.device) }
     {
         let faults_before = store.faults();
+        let moment_before = store.moment();
         store.sized();
         StoreView {
             store,
             room,
             ahead: ReadAhead::empty(),
             faults_before,
+            moment_before,
         }
     }
 
@@ -133,6 +135,7 @@ impl<'a, D: Device> StoreView<'a, D> {
         ensures size { OnOk result (length out.new.bytes ≡ 512 * sectors block.kind) }
         ensures kept { KeepsStore D.gives D.sector_count D.changes_of self.old.store self.new.store }
         ensures faults_before { self.new.faults_before ≡ self.old.faults_before }
+        ensures moment_before { self.new.moment_before ≡ self.old.moment_before }
         ensures later { D.moment_of self.old.store.now.device ≤ D.moment_of self.new.store.now.device }
         ensures cause { FailsByCause (D.fault_count self.old.store.now.device) (D.fault_count self.new.store.now.device) (D.moment_of self.new.store.now.device) result }
     {
@@ -147,7 +150,7 @@ impl<'a, D: Device> View for StoreView<'a, D> {
 
     ghost Kept = { BorrowedStore };
 
-    ghost kept = { λ v. borrowed_store D.gives D.sector_count D.changes_of v.store.ghost_name v.store.now v.faults_before };
+    ghost kept = { λ v. borrowed_store D.gives D.sector_count D.changes_of v.store.ghost_name v.store.now v.faults_before v.moment_before };
 
     /// A body that is kept is given without a call of the device. Else a sector at or past the
     /// device's end counts as zeros, and there is at most one call. From the device's last moment

@@ -174,7 +174,7 @@ module _ {D : Type 0} (gives : D → Option (List (List ℕ))) (count : D → �
       (subst (λ (xs : List Shadow). AreShadows p.list xs) (sym same) (record { held = p.made.shadows; once = p.made.shadowed_once }))
 
   -- the calls behind a plan
-  pub calls_behind : (plan : MountPlan) (mid new : D) (result : Result (Unit {0}) Failed) → IsPlan place (count old) plan → IsPlanOn (changes old).disk place kept plan → KeepsDevice gives count changes faults old mid
+  pub calls_behind : (plan : MountPlan) (mid new : D) (result : Result (Unit {0}) Failed) → IsPlan place (count old) plan → IsPlanOn (changes old).disk place kept plan → KeepsDevice gives count changes faults moment old mid
       → WritesPlan gives changes moment place plan result mid new → ReadsAndWrites gives count changes faults moment place kept plan.found result old new
   calls_behind plan mid new result is on reads writes = go (changes old).disk refl on
     where
@@ -218,12 +218,12 @@ module _ {D : Type 0} (gives : D → Option (List (List ℕ))) (count : D → �
         (subst (λ (c : Changes). LeavesAlike number (moment calls.mid) place kept calls.list (mounted_content (content_of (seen first)) calls.list) found.recovered.next_lap c (changes new)) same
         ((mounts_recover_law gives changes moment sees values).images number place kept (state_with calls.list found.recovered) (items_by found calls.keys) first result calls.mid new (ap (λ (c : Changes). c.disk) same ∙ reads.known) r.1 still alone calls.writes)))
 
-    pub stays_same : (new : D) → KeepsDevice gives count changes faults old new → StaysRecovered (moment old) place kept (changes old) (changes new)
+    pub stays_same : (new : D) → KeepsDevice gives count changes faults moment old new → StaysRecovered (moment old) place kept (changes old) (changes new)
     stays_same new reads number first state on still alone = leaves_same number (moment old) place kept state.log (mounted_content (content_of (seen first)) state.log) state.next_lap (changes old) (changes new) reads.unchanged
 
   -- ---- and its clauses
 
-  module _ (plan : MountPlan) (mid : D) (is : IsPlan place (count old) plan) (on : IsPlanOn (changes old).disk place kept plan) (reads : KeepsDevice gives count changes faults old mid) where
+  module _ (plan : MountPlan) (mid : D) (is : IsPlan place (count old) plan) (on : IsPlanOn (changes old).disk place kept plan) (reads : KeepsDevice gives count changes faults moment old mid) where
     pub all_mounted : (result : Result (Mounted D) (StoreFault × D)) → IfOk result (λ m. WritesPlan gives changes moment place plan (Ok tt) mid m.store.device)
         → IfOk result (λ m. facts_of m.store.state ≡ first_facts place (area_behind place plan.found.recovered) kept) → IfOk result (λ m. IsMounted gives count changes faults moment place kept old m.store.device (facts_of m.store.state))
     all_mounted (Ok m) done facts = record { found = plan.found; calls = calls_behind plan mid m.store.device (Ok tt) is on reads done; start = facts }

@@ -40,7 +40,7 @@ pub record ReadsAndWrites {D : Type 0} (gives : D → Option (List (List ℕ))) 
   pub list : List Entry
   pub may : IfSome (changes old).disk (MayMount place kept (state_with list found.recovered) (items_by found keys))
   pub mid : D
-  pub reads : KeepsDevice gives count changes faults old mid
+  pub reads : KeepsDevice gives count changes faults moment old mid
   pub writes : MountsAs gives changes moment place (state_with list found.recovered) (items_by found keys) result mid new
 
 -- all of it went well, and the store is at its start, over a session that was opened by what was found
@@ -52,7 +52,7 @@ pub record IsMounted {D : Type 0} (gives : D → Option (List (List ℕ))) (coun
 -- the device was only read; or one of the calls that write failed, and none was made behind it
 abbrev pub StopsMount : {D : Type 0} → (D → Option (List (List ℕ))) → (D → ℕ) → (D → Changes) → (D → ℕ) → (D → ℕ) → LogPlace → List Block → StoreFault → D → D → Type 0
 StopsMount gives count changes faults moment place kept fault old new =
-    KeepsDevice gives count changes faults old new ⊎ ((fault ≡ Fault) × (failed : Failed) × (found : ToWrite) × ReadsAndWrites gives count changes faults moment place kept found (Err failed) old new)
+    KeepsDevice gives count changes faults moment old new ⊎ ((fault ≡ Fault) × (failed : Failed) × (found : ToWrite) × ReadsAndWrites gives count changes faults moment place kept found (Err failed) old new)
 
 -- ---- what stands then, where the disk is known
 

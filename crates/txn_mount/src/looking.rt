@@ -50,7 +50,7 @@ pub fn show_recovered<D: Device>(
     requires sized { All IsSized bodies.now }
     requires right { HasPlaces bodies.now places.now }
     ensures body { OnOk result (IfSome (D.gives device.old) (λ disk. out.new ≡ content_with bodies.now (content_of (sector_of disk)) block)) }
-    ensures kept { KeepsDevice D.gives D.sector_count D.changes_of D.fault_count device.old device.new }
+    ensures kept { KeepsDevice D.gives D.sector_count D.changes_of D.fault_count D.moment_of device.old device.new }
     ensures only { IfErr result (λ e. e ≡ ViewFault.Fault) }
     ensures fault { IsErrOf result ViewFault.Fault → HasFailed (D.fault_count device.old) (D.fault_count device.new) (D.moment_of device.new) }
     ensures counted { D.moment_of device.old < last_moment → CountsOnDevice view_cause (D.fault_count device.old) (D.fault_count device.new) (D.moment_of device.new) result }

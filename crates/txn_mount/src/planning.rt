@@ -36,7 +36,7 @@ pub fn plan<D: Device>(
     ensures on { IfOk result (IsPlanOn (D.changes_of device.old).disk place.now kept.now) }
     ensures refusals { IfSome (D.gives device.old) (λ disk. IfErr result (λ e. ExplainsOrFails (store_cause e) (to_write_in (content_of (sector_of disk)) place.now kept.now))) }
     ensures broken { IfErr result (λ e. e ≡ Broken → D.gives device.old ≡ None) }
-    ensures kept { KeepsDevice D.gives D.sector_count D.changes_of D.fault_count device.old device.new }
+    ensures kept { KeepsDevice D.gives D.sector_count D.changes_of D.fault_count D.moment_of device.old device.new }
     ensures fault { IsErrOf result StoreFault.Fault → HasFailed (D.fault_count device.old) (D.fault_count device.new) (D.moment_of device.new) }
     ensures counted { D.moment_of device.old < last_moment → CountsOnDevice count_cause (D.fault_count device.old) (D.fault_count device.new) (D.moment_of device.new) result }
 {

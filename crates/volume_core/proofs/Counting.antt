@@ -15,10 +15,10 @@ use Rattle.working_volume.specs.txn_core.Views.{BorrowedStore, borrowed_store}
 use Rattle.volume_core.specs.Looks.{RepliesOf, CountsLook}
 
 of_device : BorrowedStore → BorrowedDevice
-of_device b = record { reference = b.reference; gives = b.gives; sectors = b.sectors; changes = b.changes; faults_before = b.faults_before }
+of_device b = record { reference = b.reference; gives = b.gives; sectors = b.sectors; changes = b.changes; faults_before = b.faults_before; moment_before = b.moment_before }
 
-pub look_counts : {D : Type 0} (known : Option Tree) (reply : Reply) (gives : D → Option (List (List ℕ))) (count : D → ℕ) (changes : D → Changes) (faults moment : D → ℕ) (old last x : Seen D) (given reference before first : ℕ)
-    → borrowed_store gives count changes reference last before ≡ borrowed_store gives count changes given old (faults old.device) → first ≡ failures (faults old.device) (moment old.device) → before ≤ faults last.device
+pub look_counts : {D : Type 0} (known : Option Tree) (reply : Reply) (gives : D → Option (List (List ℕ))) (count : D → ℕ) (changes : D → Changes) (faults moment : D → ℕ) (old last x : Seen D) {began : ℕ} (given reference before first : ℕ)
+    → borrowed_store gives count changes reference last before began ≡ borrowed_store gives count changes given old (faults old.device) (moment old.device) → first ≡ failures (faults old.device) (moment old.device) → before ≤ faults last.device
     → CountsReply known first (failures (faults last.device) (moment last.device)) reply → (given ≡ reference → x ≡ last) → CountsLook faults moment known reply old x
 unfolding of_device
 look_counts {D} known reply gives count changes faults moment old last x given reference before first kept is more counted ended = record {

@@ -74,8 +74,8 @@ module _ {D : Type 0} (gives : D → Option (List (List ℕ))) (count : D → �
   }
 
   -- behind a call that only read
-  pub looked_trees : (failures : D → ℕ) → KeepsSeen gives count changes failures old.store new.store → new.map ≡ old.map → StaysPut gives count changes old new
-  looked_trees failures kept map = record {
+  pub looked_trees : (failures moment : D → ℕ) → KeepsSeen gives count changes failures moment old.store new.store → new.map ≡ old.map → StaysPut gives count changes old new
+  looked_trees failures moment kept map = record {
     history = λ first trees h.
         seen_again h.disk first h.mounted h.window trees (kept.same ∙ h.given)
         (subst (λ (x : MapParts). HoldsTrees (count old.store.device) (changes new.store.device) (facts_of new.store.state) first h.mounted x old.table h.disk trees h.window) (sym map)

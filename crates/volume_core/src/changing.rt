@@ -1,13 +1,11 @@
 //! Operations that write, fill or cut a file of a volume.
-ghost use Rattle.std.specs.Prelude.{◌≡◌, true, None, Err, Ok};
-ghost use Rattle.host_base.specs.Causes.{HasFailed};
-ghost use Rattle.tree_model.specs.declared.reply.Reply.TheVariants as replies;
+ghost use Rattle.std.specs.Prelude.{◌≡◌, true, None, Err};
 ghost use Rattle.tree_model.specs.Steps.{IsWithinBounds};
 ghost use Rattle.working_volume.specs.change_plan.States.{is_data_change};
 ghost use Rattle.txn_state.specs.States.{facts_of};
 ghost use Rattle.working_volume.specs.state_store.Rooms.{MayNumber};
 ghost use Rattle.working_volume.specs.declared.fault.DoFault.TheVariants as do_faults;
-ghost use Rattle.working_volume.specs.Doing.{Does};
+ghost use Rattle.working_volume.specs.Doing.{Does, CountsChange};
 ghost use Rattle.volume_core.specs.Volumes.{volume_tree};
 ghost use Rattle.volume_core.specs.Trees.{StepsTree};
 ghost use Rattle.volume_core.specs.Calls.{GoesOn};
@@ -42,7 +40,7 @@ impl<D: Device> Volume<D> {
         ensures table { self.new.table ≡ self.old.table }
         ensures streams { self.new.streams ≡ self.old.streams }
         ensures unknown { result ≡ Err do_faults.Unknown → D.gives self.old.store.device ≡ None }
-        ensures fault { result ≡ Ok replies.Fault → HasFailed (D.fault_count self.old.store.device) (D.fault_count self.new.store.device) (D.moment_of self.new.store.device) }
+        ensures counts { CountsChange D.fault_count D.moment_of result self.old.store.device self.new.store.device }
         ensures history { GoesOn D.gives D.sector_count D.changes_of self.old self.new }
         ensures sectors { D.sector_count self.new.store.device ≡ D.sector_count self.old.store.device }
     {

@@ -55,7 +55,7 @@ fn look_over<D: Device>(
     requires named { AreNamesOf names.now (live_parts live.now).volume.files }
     ensures value { IfSome (known_tree upper.now (live_parts live.now).volume (present_content (D.gives store.old.device) store.old.state)) (λ t. is_given_up result ≡ false → Replies upper.now t.nodes t.links op.now result) }
     ensures step { IfSome (known_tree upper.now (live_parts live.now).volume (present_content (D.gives store.old.device) store.old.state)) (λ t. (stamp : ℕ) → IsStep upper.now op.now stamp result t t) }
-    ensures kept { KeepsSeen D.gives D.sector_count D.changes_of D.fault_count store.old store.new }
+    ensures kept { KeepsSeen D.gives D.sector_count D.changes_of D.fault_count D.moment_of store.old store.new }
     ensures counts { CountsLook D.fault_count D.moment_of (known_tree upper.now (live_parts live.now).volume (present_content (D.gives store.old.device) store.old.state)) result store.old store.new }
     ensures sized { length room.new ≡ 65536 }
 {
@@ -74,7 +74,7 @@ impl<D: Device> Volume<D> {
     pub fn look(&mut self, alloc: Global, op: &Op) -> Reply
         requires looks { is_look op.now ≡ true }
         ensures replies { IfSome (volume_tree D.gives self.old) (RepliesOf self.old.table op.now result) }
-        ensures kept { KeepsSeen D.gives D.sector_count D.changes_of D.fault_count self.old.store self.new.store }
+        ensures kept { KeepsSeen D.gives D.sector_count D.changes_of D.fault_count D.moment_of self.old.store self.new.store }
         ensures map { self.new.map ≡ self.old.map }
         ensures table { self.new.table ≡ self.old.table }
         ensures streams { self.new.streams ≡ self.old.streams }

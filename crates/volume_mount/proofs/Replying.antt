@@ -24,8 +24,8 @@ counts known reply before now moment_before moment_now more early same = has_not
 
 -- A fault says that the device failed. The device is now x, which is what the view's reference shows at the end, last, where that is still the
 -- reference that the view was made of.
-pub reply_failed : {D : Type 0} (known : Option Tree) (reply : Reply) (gives : D → Option (List (List ℕ))) (count : D → ℕ) (changes : D → Changes) (faults moment : D → ℕ) (old last x : D) (given reference before first : ℕ)
-    → reply ≡ Fault → borrowed gives count changes reference last before ≡ borrowed gives count changes given old (faults old)
+pub reply_failed : {D : Type 0} (known : Option Tree) (reply : Reply) (gives : D → Option (List (List ℕ))) (count : D → ℕ) (changes : D → Changes) (faults moment : D → ℕ) (old last x : D) {began : ℕ} (given reference before first : ℕ)
+    → reply ≡ Fault → borrowed gives count changes reference last before began ≡ borrowed gives count changes given old (faults old) (moment old)
     → failures (faults old) (moment old) ≤ first → CountsReply known first (failures (faults last) (moment last)) reply → (given ≡ reference → x ≡ last) → IfSome known (λ t. HasFailed (faults old) (faults x) (moment x))
 reply_failed known reply gives count changes faults moment old last x given reference before first is kept more counted ended =
     one known (λ t. Rose first (failures (faults last) (moment last))) (λ t. HasFailed (faults old) (faults x) (moment x))
@@ -33,8 +33,8 @@ reply_failed known reply gives count changes faults moment old last x given refe
     (subst (λ (r : Reply). CountsReply known first (failures (faults last) (moment last)) r) is counted)
 
 -- The same of its counts. The device is now x, which is what the view's reference shows at the end, last, where that is still the reference that the view was made of.
-pub reply_counts : {D : Type 0} (known : Option Tree) (reply : Reply) (gives : D → Option (List (List ℕ))) (count : D → ℕ) (changes : D → Changes) (faults moment : D → ℕ) (old last x : D) (given reference before first : ℕ)
-    → borrowed gives count changes reference last before ≡ borrowed gives count changes given old (faults old)
+pub reply_counts : {D : Type 0} (known : Option Tree) (reply : Reply) (gives : D → Option (List (List ℕ))) (count : D → ℕ) (changes : D → Changes) (faults moment : D → ℕ) (old last x : D) {began : ℕ} (given reference before first : ℕ)
+    → borrowed gives count changes reference last before began ≡ borrowed gives count changes given old (faults old) (moment old)
     → first ≡ failures (faults old) (moment old) → before ≤ faults last → CountsReply known first (failures (faults last) (moment last)) reply → (given ≡ reference → x ≡ last)
     → moment old < 2 ^ 62 → CountsReplyOnDevice known (faults old) (faults x) (moment x) reply
 reply_counts known reply gives count changes faults moment old last x given reference before first kept is more rose ended early =

@@ -89,7 +89,7 @@ impl<'a> MountedTree<'a> {
         requires looks { is_look op.now ≡ true }
         ensures value { IfSome (tree_shown self.now.mounted.now (D.gives device.old)) (λ t. is_given_up result ≡ false → Replies self.now.mounted.now.upper t.nodes t.links op.now result) }
         ensures step { IfSome (tree_shown self.now.mounted.now (D.gives device.old)) (λ t. (stamp : ℕ) → IsStep self.now.mounted.now.upper op.now stamp result t t) }
-        ensures kept { KeepsDevice D.gives D.sector_count D.changes_of D.fault_count device.old device.new }
+        ensures kept { KeepsDevice D.gives D.sector_count D.changes_of D.fault_count D.moment_of device.old device.new }
         ensures fault { result ≡ Reply.Fault → IfSome (tree_shown self.now.mounted.now (D.gives device.old)) (λ _. HasFailed (D.fault_count device.old) (D.fault_count device.new) (D.moment_of device.new)) }
         ensures counted { D.moment_of device.old < last_moment → CountsReplyOnDevice (tree_shown self.now.mounted.now (D.gives device.old)) (D.fault_count device.old) (D.fault_count device.new) (D.moment_of device.new) result }
     {

@@ -56,7 +56,7 @@ fn mount_sectors<D: Device>(
     sectors: u64,
 ) -> Result<Mounted, MountFault>
     ensures answer { IfSome (D.gives device.old) (λ disk. MountsAs (content_of (sector_of disk)) (mounted_in (content_of (sector_of disk)) sectors) result) }
-    ensures kept { KeepsDevice D.gives D.sector_count D.changes_of D.fault_count device.old device.new }
+    ensures kept { KeepsDevice D.gives D.sector_count D.changes_of D.fault_count D.moment_of device.old device.new }
     ensures fault { IsErrOf result MountFault.Device → HasFailed (D.fault_count device.old) (D.fault_count device.new) (D.moment_of device.new) }
     ensures counted { D.moment_of device.old < last_moment → CountsOnDevice scan_cause (D.fault_count device.old) (D.fault_count device.new) (D.moment_of device.new) result }
 {
@@ -93,7 +93,7 @@ fn mount_sectors<D: Device>(
 #[tactic(auto, unfolding(crate::specs::Mounts::mounted_of))]
 pub fn mount<D: Device>(alloc: Global, device: &mut D) -> Result<Mounted, MountFault>
     ensures answer { IfSome (D.gives device.old) (λ disk. MountsAs (content_of (sector_of disk)) (mounted_of disk) result) }
-    ensures kept { KeepsDevice D.gives D.sector_count D.changes_of D.fault_count device.old device.new }
+    ensures kept { KeepsDevice D.gives D.sector_count D.changes_of D.fault_count D.moment_of device.old device.new }
     ensures fault { IsErrOf result MountFault.Device → HasFailed (D.fault_count device.old) (D.fault_count device.new) (D.moment_of device.new) }
     ensures counted { D.moment_of device.old < last_moment → CountsOnDevice scan_cause (D.fault_count device.old) (D.fault_count device.new) (D.moment_of device.new) result }
     ensures none { D.sector_count device.old ≡ 0 → result ≡ Err (MountFault.Refused (Refusal.Short 1 0)) }

@@ -27,7 +27,7 @@ pub fn mount<D: Device>(alloc: Global, device: D) -> Result<Volume<D>, (StartFau
     ensures fault { IfErr result (λ e. e.0 ≡ faults.Device → HasFailed (D.fault_count device) (D.fault_count e.1) (D.moment_of e.1)) }
     ensures refused { IfSome (D.gives device) (λ first. IfErr result (λ e. RefusesAs first e.0)) }
     ensures unfit { IfSome (D.gives device) (λ first. IfErr result (λ e. UnfitAs first e.0)) }
-    ensures unwritten { IfErr result (λ e. e.0 ≢ faults.Device → KeepsDevice D.gives D.sector_count D.changes_of D.fault_count device e.1) }
+    ensures unwritten { IfErr result (λ e. e.0 ≢ faults.Device → KeepsDevice D.gives D.sector_count D.changes_of D.fault_count D.moment_of device e.1) }
 {
     match start(alloc, device) {
         Ok(started) => {

@@ -44,7 +44,7 @@ fn turns_on<R: Threads + Wait, D: Device, G: Gate>(
     requires unjournaled { IfSome (tree_shown mounted.now (D.gives device.old)) (λ t. t.journal ≡ None) }
     ensures run { IfOk result (λ turns. IfSome (tree_shown mounted.now (D.gives device.old)) (λ t. IsRunOf mounted.now.upper t script.now time (D.fault_count device.old) turns.items)) }
     ensures turns { IfOk result (λ turns. TakesTurns script.now (D.fault_count device.old) (D.fault_count device.new) turns.items) }
-    ensures kept { KeepsDevice D.gives D.sector_count D.changes_of D.fault_count device.old device.new }
+    ensures kept { KeepsDevice D.gives D.sector_count D.changes_of D.fault_count D.moment_of device.old device.new }
 {
     let tree = MountedTree::new(alloc, mounted)?;
     let mut room = piece_room(alloc)?;
@@ -75,7 +75,7 @@ pub fn run_text<R: Threads + Wait, D: Device, G: Gate>(
     requires looks { AllLook script.now }
     ensures answer { IfSome (D.gives device.old) (λ disk. RunsAs (mounted_of disk) script.now time (counted_by D.fault_count D.moment_of device.old) (D.fault_count device.new) result) }
     ensures told { IfOk result (λ text. IsPrintedRun None script.now time (counted_by D.fault_count D.moment_of device.old) (D.fault_count device.new) (string_bytes text)) }
-    ensures kept { KeepsDevice D.gives D.sector_count D.changes_of D.fault_count device.old device.new }
+    ensures kept { KeepsDevice D.gives D.sector_count D.changes_of D.fault_count D.moment_of device.old device.new }
     ensures fault { IsErrOf result MountFault.Device → HasFailed (D.fault_count device.old) (D.fault_count device.new) (D.moment_of device.new) }
     ensures refused { D.moment_of device.old < last_moment → (r : RefusalOf) → result ≡ Err (MountFault.Refused r) → D.fault_count device.new ≡ D.fault_count device.old }
     ensures none { D.sector_count device.old ≡ 0 → result ≡ Err (MountFault.Refused (Refusal.Short 1 0)) }

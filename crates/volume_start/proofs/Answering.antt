@@ -141,22 +141,23 @@ mount_fails mounts.Memory is = absurd cc
 
 -- of a store's mount that fails in no call of the device
 pub store_reads : {D : Type 0} (gives : D → Option (List (List ℕ))) (count : D → ℕ) (changes : D → Changes) (faults moment : D → ℕ) (place : LogPlace) (kept : List Block) (why : StoreFault) (e : StartFault) (old new : D) → e ≡ fault_of_store why
-    → StopsMount gives count changes faults moment place kept why old new → e ≢ Device → KeepsDevice gives count changes faults old new
+    → StopsMount gives count changes faults moment place kept why old new → e ≢ Device → KeepsDevice gives count changes faults moment old new
 store_reads gives count changes faults moment place kept why e old new same (inl keeps) other = keeps
 store_reads gives count changes faults moment place kept why e old new same (inr (is, _, _, _)) other = absurd (other (same ∙ ap fault_of_store is))
 
 -- so it stays behind both
-pub keeps_both : {D : Type 0} (gives : D → Option (List (List ℕ))) (count : D → ℕ) (changes : D → Changes) (faults : D → ℕ) (old mid new : D) → KeepsDevice gives count changes faults old mid → KeepsDevice gives count changes faults mid new
-    → KeepsDevice gives count changes faults old new
-keeps_both gives count changes faults old mid new first then = record { same = then.same ∙ first.same; sectors = then.sectors ∙ first.sectors; unchanged = then.unchanged ∙ first.unchanged; later = omega (arith, first.later, then.later) }
+pub keeps_both : {D : Type 0} (gives : D → Option (List (List ℕ))) (count : D → ℕ) (changes : D → Changes) (faults moment : D → ℕ) (old mid new : D) → KeepsDevice gives count changes faults moment old mid → KeepsDevice gives count changes faults moment mid new
+    → KeepsDevice gives count changes faults moment old new
+keeps_both gives count changes faults moment old mid new first then =
+    record { same = then.same ∙ first.same; sectors = then.sectors ∙ first.sectors; unchanged = then.unchanged ∙ first.unchanged; later = omega (arith, first.later, then.later); onwards = omega (arith, first.onwards, then.onwards) }
 
-pub starts_behind : {D : Type 0} (gives : D → Option (List (List ℕ))) (count : D → ℕ) (changes : D → Changes) (faults : D → ℕ) (old mid new : D) (state : StateOf) (p : MapParts) (table : List ℕ) (s : VolumeStreams) → KeepsDevice gives count changes faults old mid
+pub starts_behind : {D : Type 0} (gives : D → Option (List (List ℕ))) (count : D → ℕ) (changes : D → Changes) (faults moment : D → ℕ) (old mid new : D) (state : StateOf) (p : MapParts) (table : List ℕ) (s : VolumeStreams) → KeepsDevice gives count changes faults moment old mid
     → StartsOn gives count changes mid new state p table s → StartsOn gives count changes old new state p table s
-starts_behind gives count changes faults old mid new state p table s kept starts first known settled = starts first (kept.same ∙ known) (subst (λ (x : Changes). IfSome x.disk IsSettled) (sym kept.unchanged) settled)
+starts_behind gives count changes faults moment old mid new state p table s kept starts first known settled = starts first (kept.same ∙ known) (subst (λ (x : Changes). IfSome x.disk IsSettled) (sym kept.unchanged) settled)
 
-pub anywhere_behind : {D : Type 0} (gives : D → Option (List (List ℕ))) (count : D → ℕ) (changes : D → Changes) (faults : D → ℕ) (old mid new : D) (state : StateOf) → KeepsDevice gives count changes faults old mid → BeginsAnywhere (gives mid) (gives new) state
+pub anywhere_behind : {D : Type 0} (gives : D → Option (List (List ℕ))) (count : D → ℕ) (changes : D → Changes) (faults moment : D → ℕ) (old mid new : D) (state : StateOf) → KeepsDevice gives count changes faults moment old mid → BeginsAnywhere (gives mid) (gives new) state
     → BeginsAnywhere (gives old) (gives new) state
-anywhere_behind gives count changes faults old mid new state kept begins = subst (λ (o : Option (List (List ℕ))). BeginsAnywhere o (gives new) state) kept.same begins
+anywhere_behind gives count changes faults moment old mid new state kept begins = subst (λ (o : Option (List (List ℕ))). BeginsAnywhere o (gives new) state) kept.same begins
 
 -- ---- answers
 

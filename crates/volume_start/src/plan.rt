@@ -134,7 +134,7 @@ pub fn prepare<D: Device>(alloc: Global, device: &mut D) -> Result<StartPlan, St
     ensures fits { IfOk result (FitsPlan (D.sector_count device.old)) }
     ensures refused { IfSome (D.gives device.old) (λ first. IfErr result (RefusesAs first)) }
     ensures unfit { IfSome (D.gives device.old) (λ first. IfErr result (UnfitAs first)) }
-    ensures kept { KeepsDevice D.gives D.sector_count D.changes_of D.fault_count device.old device.new }
+    ensures kept { KeepsDevice D.gives D.sector_count D.changes_of D.fault_count D.moment_of device.old device.new }
     ensures fault { IsErrOf result StartFault.Device → HasFailed (D.fault_count device.old) (D.fault_count device.new) (D.moment_of device.new) }
 {
     let mounted = mount(alloc, device)?;

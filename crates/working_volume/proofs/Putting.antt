@@ -1,9 +1,9 @@
 -- What stands behind the put of a plan.
 use Rattle.std.proofs.Common.{◌≡◌, subst, ℕ, ◌<◌, true, false, List, [], length, Bool, Option, Some, None, Result, Ok, Err, refl, sym, ap, ap₂, ◌∙◌, arith}
-use Rattle.std.specs.Prelude.{All, IfSome}
+use Rattle.std.specs.Prelude.{◌≢◌, All, IfSome}
 use Rattle.std.specs.Option.{option_map}
 use Rattle.host_base.specs.Answers.{GivesOrFails}
-use Rattle.host_base.specs.Causes.{HasFailed}
+use Rattle.host_base.specs.Causes.{HasFailed, last_moment}
 use Rattle.host_base.proofs.Known.{one}
 use Rattle.disk_model.specs.declared.block.Change.{Change}
 use Rattle.disk_model.specs.Content.{Content}
@@ -21,6 +21,7 @@ use Rattle.plans_lead.specs.same_names.Names.{SameNames}
 use Rattle.plans_lead.specs.names_stay.Held.{NamesStay}
 use Rattle.tree_model.specs.declared.script.Op.{Op}
 use Rattle.tree_model.specs.declared.reply.Reply.{Reply}
+use Rattle.tree_model.specs.declared.reply.Reply.TheVariants as reply
 use Rattle.tree_model.specs.Steps.{is_given_up}
 use Rattle.plans_lead.specs.step_model.Steps.{Step}
 use Rattle.plans_lead.specs.txn_model.Values.{StoreFacts}
@@ -31,17 +32,21 @@ use Rattle.put_checks.specs.state_store.declared.fault.PutFault.{PutFault}
 use Rattle.put_checks.specs.state_store.Volumes.{geometry_of, HoldsState}
 use Rattle.put_checks.specs.state_store.Changes.{MayLog, AreApart, LeadsOn}
 use Rattle.put_checks.specs.state_store.Rooms.{room_in, room_cause}
-use Rattle.put_checks.specs.state_store.Preparing.{KeepsSeen}
+use Rattle.put_checks.specs.state_store.Preparing.{KeepsSeen, FailsSeen}
 use Rattle.put_checks.specs.state_store.Puts.{PutsOver, IsUnknownWhereBroken, HasPutCauses}
 use Rattle.put_checks.proofs.state_store.Outcomes.{nothing_put}
+use Rattle.put_checks.specs.state_store.turn_laws.device_view.Devices.{CountsOnDevice}
+use Rattle.change_plan.specs.declared.fault.PlanFault.{PlanFault}
+use Rattle.change_plan.specs.declared.fault.PlanFault.TheVariants as plans
+use Rattle.change_plan.specs.Faults.{plan_cause}
 use Rattle.change_plan.specs.declared.plan.ChangePlan.{ChangePlan}
 use Rattle.change_plan.specs.States.{is_data_change}
 use Rattle.working_volume.specs.declared.fault.DoFault.{DoFault}
 use Rattle.working_volume.specs.declared.fault.DoFault.TheVariants.{Unknown}
 use Rattle.working_volume.specs.Ready.{IsReady, IsTaken}
-use Rattle.working_volume.specs.Doing.{put_answer, IsAnswered, PutsAndAnswers, DoesStep, Does}
+use Rattle.working_volume.specs.Doing.{put_answer, IsAnswered, PutsAndAnswers, DoesStep, Does, CountsChange}
 use Rattle.working_volume.specs.Putting.{PutsPlan}
-use Rattle.working_volume.proofs.Stepping.{stays, replies, changes, put_steps, is_answered, answer_unknown, answer_failed, failed_since}
+use Rattle.working_volume.proofs.Stepping.{stays, replies, changes, put_steps, is_answered, answer_unknown, answer_failed, answer_counts, failed_since}
 use Rattle.working_volume.proofs.Readying.{put_ready, still_ready}
 
 -- ---- changes that were put, or weren't
@@ -66,7 +71,7 @@ tried {D} names_stay gives count moments failures moment result plan old new m n
   steps = λ op stamp of_file step. put_steps op stamp m plan.reply plan.changes.items put result _ _ is of_file over.content step;
   ready = λ s ready taken. put_ready put plan.changes.items _ _ old.state new.state _ _ m next table s over ready (taken some);
   unknown = answer_unknown result plan.reply put (gives old.device) is broken;
-  fault = answer_failed result plan.reply put (HasFailed (failures old.device) (failures new.device) (moment new.device)) is kept causes.failed;
+  counts = answer_counts failures moment result plan.reply put old new is kept causes;
   sectors = sectors;
   named = λ names is. names_stay names m.volume.files next.volume.files is same;
 }
@@ -103,7 +108,11 @@ none_to_put {D} gives count moments failures moment said plan old m table none i
       (after_none (gives old.device) (gives old.device) (count old.device) old.state (moments old.device) m table holds k whole)) step);
   ready = λ s ready taken. ready;
   unknown = λ u. absurd cc;
-  fault = answer_failed (Ok said) plan.reply (Ok tt) (HasFailed (failures old.device) (failures old.device) (moment old.device)) (ap (λ (r : Reply). Ok r) is) kept tt;
+  counts = record {
+    onwards = record { later = omega arith; onwards = omega arith };
+    fault = answer_failed (Ok said) plan.reply (Ok tt) (HasFailed (failures old.device) (failures old.device) (moment old.device)) (ap (λ (r : Reply). Ok r) is) kept tt;
+    counted = λ early other. refl;
+  };
   sectors = refl;
   named = λ names is. is;
 }
@@ -122,14 +131,26 @@ refused {D} gives count moments failures moment plan old m table passes is isnt 
   steps = λ op stamp of_file step. stays op stamp m Unknown _ _ refl;
   ready = λ s ready taken. ready;
   unknown = λ u. none_where (gives old.device) old.state passes is isnt;
-  fault = λ f. absurd cc;
+  counts = record {
+    onwards = record { later = omega arith; onwards = omega arith };
+    fault = λ f. absurd cc;
+    counted = λ early other. refl;
+  };
   sectors = refl;
   named = λ names is. is;
 }
 
+-- ---- a plan that failed
+
+pub memory_counts : (fault : PlanFault) (before now moment : ℕ) → fault ≡ plans.Memory → CountsOnDevice {T = ChangePlan} plan_cause before now moment (Err fault) → now ≡ before
+memory_counts fault before now moment is counts = subst (λ (e : PlanFault). CountsOnDevice {T = ChangePlan} plan_cause before now moment (Err e)) is counts
+
+pub unknown_counts : (fault : PlanFault) (before now moment : ℕ) → fault ≡ plans.Unknown → CountsOnDevice {T = ChangePlan} plan_cause before now moment (Err fault) → now ≡ before
+unknown_counts fault before now moment is counts = subst (λ (e : PlanFault). CountsOnDevice {T = ChangePlan} plan_cause before now moment (Err e)) is counts
+
 -- ---- behind a reading of the store
 
-module _ {D : Type 0} (gives : D → Option (List (List ℕ))) (count : D → ℕ) (moments : D → Changes) (failures moment : D → ℕ) (old mid : Seen D) (kept : KeepsSeen gives count moments failures old mid) where
+module _ {D : Type 0} (gives : D → Option (List (List ℕ))) (count : D → ℕ) (moments : D → Changes) (failures moment : D → ℕ) (old mid : Seen D) (kept : KeepsSeen gives count moments failures moment old mid) where
   known : present_content (gives mid.device) mid.state ≡ present_content (gives old.device) old.state
   known = ap₂ present_content kept.same kept.state
 
@@ -138,8 +159,28 @@ module _ {D : Type 0} (gives : D → Option (List (List ℕ))) (count : D → �
       subst (λ (x : StateOf). IfSome (present_content (gives mid.device) x) (IsTaken (facts_of x) m table s xs)) (sym kept.state)
       (subst (λ (o : Option (List (List ℕ))). IfSome (present_content o old.state) (IsTaken (facts_of old.state) m table s xs)) (sym kept.same) (taken some))
 
-  pub since : (result : Result Reply DoFault) (plan : ChangePlan) (new : Seen D) (m next : MapParts) (table : List ℕ) → PutsPlan gives count moments failures moment result plan mid new m next table → PutsPlan gives count moments failures moment result plan old new m next table
-  since result plan new m next table p = record {
+  counts_since : (result : Result Reply DoFault) (new : Seen D) → (moment old.device < last_moment → failures mid.device ≡ failures old.device) → CountsChange failures moment result mid.device new.device → CountsChange failures moment result old.device new.device
+  counts_since result new same counts =
+      let first = kept.later in
+      let start = kept.onwards in
+      let then = counts.onwards.later in
+      let rest = counts.onwards.onwards in
+      record {
+        onwards = record { later = omega (arith, first, then); onwards = omega (arith, start, rest) };
+        fault = λ is. failed_since (failures old.device) (failures mid.device) (failures new.device) (moment new.device) kept.later (counts.fault is);
+        counted = λ early other. counts.counted early other ∙ same (omega (arith, early, start, rest));
+      }
+
+  -- a plan that isn't there is answered so
+  pub unplanned_counts : (result : Result Reply DoFault) → (result ≡ Ok reply.Fault → FailsSeen failures moment old mid) → (moment old.device < last_moment → result ≢ Ok reply.Fault → failures mid.device ≡ failures old.device) → CountsChange failures moment result old.device mid.device
+  unplanned_counts result fault counted = record {
+    onwards = record { later = kept.later; onwards = kept.onwards };
+    fault = λ is. (fault is).failed;
+    counted = λ early other. counted (let start = kept.onwards in omega (arith, early, start)) other;
+  }
+
+  pub since : (result : Result Reply DoFault) (plan : ChangePlan) (new : Seen D) (m next : MapParts) (table : List ℕ) → (moment old.device < last_moment → failures mid.device ≡ failures old.device) → PutsPlan gives count moments failures moment result plan mid new m next table → PutsPlan gives count moments failures moment result plan old new m next table
+  since result plan new m next table same p = record {
     holds = p.holds;
     puts = λ s taken.
         subst (λ (x : StateOf). PutsAndAnswers table s result (gives old.device) (gives new.device) x new.state (moments old.device) (moments new.device) m next) kept.state
@@ -151,7 +192,7 @@ module _ {D : Type 0} (gives : D → Option (List (List ℕ))) (count : D → �
         subst (λ (x : StateOf). IfSome (present_content (gives old.device) x) (IsReady (facts_of x) m table s) → (0 < length plan.changes.items → IfSome (present_content (gives old.device) x) (IsTaken (facts_of x) m table s plan.changes.items)) → IfSome (present_content (gives new.device) new.state) (IsReady (facts_of new.state) next table s)) kept.state
         (subst (λ (o : Option (List (List ℕ))). IfSome (present_content o mid.state) (IsReady (facts_of mid.state) m table s) → (0 < length plan.changes.items → IfSome (present_content o mid.state) (IsTaken (facts_of mid.state) m table s plan.changes.items)) → IfSome (present_content (gives new.device) new.state) (IsReady (facts_of new.state) next table s)) kept.same (p.ready s));
     unknown = λ is. sym kept.same ∙ p.unknown is;
-    fault = λ is. failed_since (failures old.device) (failures mid.device) (failures new.device) (moment new.device) kept.later (p.fault is);
+    counts = counts_since result new same p.counts;
     sectors = p.sectors ∙ kept.sectors;
     named = p.named;
   }

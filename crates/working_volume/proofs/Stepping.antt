@@ -1,6 +1,6 @@
 -- The step of an operation of which the changes were put, or weren't.
 use Rattle.std.proofs.Common.{◌≡◌, subst, ℕ, ◌<◌, ◌≤◌, true, false, List, [], ◌∷◌, length, Option, Some, None, Result, Ok, Err, refl, sym, ap, ◌∙◌, inl, inr, arith}
-use Rattle.std.specs.Prelude.{IfSome, IfErr}
+use Rattle.std.specs.Prelude.{◌≢◌, IfSome, IfErr}
 use Rattle.std.specs.Option.{option_map}
 use Rattle.host_base.specs.Causes.{HasFailed}
 use Rattle.disk_model.specs.declared.block.Change.{Change}
@@ -14,14 +14,16 @@ use Rattle.tree_model.specs.declared.reply.Reply.{Reply}
 use Rattle.tree_model.specs.declared.reply.Reply.TheVariants as reply
 use Rattle.tree_model.specs.Steps.{is_given_up}
 use Rattle.plans_lead.specs.step_model.Steps.{Answer, GivenUp, answer_of, IsDoneIn, IsRefused, StepBy, Step}
+use Rattle.plans_lead.specs.txn_core.Seen.{Seen}
+use Rattle.put_checks.specs.state_store.turn_laws.device_view.Devices.{CountsOnDevice}
 use Rattle.put_checks.specs.state_store.declared.fault.PutFault.{PutFault}
 use Rattle.put_checks.specs.state_store.declared.fault.PutFault.TheVariants as faults
 use Rattle.put_checks.specs.state_store.Volumes.{geometry_of}
-use Rattle.put_checks.specs.state_store.Puts.{PutsContent, IsUnknownWhereBroken}
+use Rattle.put_checks.specs.state_store.Puts.{put_cause, PutsContent, IsUnknownWhereBroken, HasPutCauses}
 use Rattle.change_plan.specs.States.{is_data_change}
 use Rattle.working_volume.specs.declared.fault.DoFault.{DoFault}
 use Rattle.working_volume.specs.declared.fault.DoFault.TheVariants.{NeedsRoom, Unknown}
-use Rattle.working_volume.specs.Doing.{put_answer, IsAnswered, DoesStep}
+use Rattle.working_volume.specs.Doing.{put_answer, IsAnswered, DoesStep, CountsChange}
 
 -- ---- what is given up
 
@@ -110,6 +112,21 @@ fault_only said (Err faults.Broken) kept is = absurd cc
 
 pub answer_failed : (result : Result Reply DoFault) (said : Reply) (put : Result (Unit {0}) PutFault) (F : Type 0) → result ≡ put_answer said put → is_given_up said ≡ false → IfErr put (λ why. why ≡ faults.Fault → F) → result ≡ Ok reply.Fault → F
 answer_failed result said put F is kept failed fault = (subst (λ (r : Result (Unit {0}) PutFault). IfErr r (λ why. why ≡ faults.Fault → F)) (fault_only said put kept (sym is ∙ fault)) failed) refl
+
+counted_by : (said : Reply) (put : Result (Unit {0}) PutFault) (before now moment : ℕ) → CountsOnDevice put_cause before now moment put → put_answer said put ≢ Ok reply.Fault → now ≡ before
+counted_by said (Ok tt) before now moment counts other = counts
+counted_by said (Err (faults.NeedsRoom pages room)) before now moment counts other = counts
+counted_by said (Err faults.Fault) before now moment counts other = absurd (other refl)
+counted_by said (Err faults.Memory) before now moment counts other = counts
+counted_by said (Err faults.Broken) before now moment counts other = counts
+
+pub answer_counts : {D : Type 0} (failures moment : D → ℕ) (result : Result Reply DoFault) (said : Reply) (put : Result (Unit {0}) PutFault) (old new : Seen D) → result ≡ put_answer said put → is_given_up said ≡ false → HasPutCauses failures moment put old new → CountsChange failures moment result old.device new.device
+answer_counts {D} failures moment result said put old new is kept causes = record {
+  onwards = causes.onwards;
+  fault = answer_failed result said put (HasFailed (failures old.device) (failures new.device) (moment new.device)) is kept causes.failed;
+  counted = λ early other.
+      counted_by said put (failures old.device) (failures new.device) (moment new.device) (causes.counted (let more = causes.onwards.onwards in omega (arith, early, more))) (λ same. other (is ∙ same));
+}
 
 pub failed_since : (before mid now moment : ℕ) → before ≤ mid → HasFailed mid now moment → HasFailed before now moment
 failed_since before mid now moment later (inl rose) = inl (omega (arith, later, rose))

@@ -1,6 +1,7 @@
 -- What an operation that is done on a volume answers, and what stands then.
-use Rattle.std.specs.Prelude.{◌≡◌, ℕ, ◌<◌, ⊤, All, List, [], ◌∷◌, length, Option, Some, None, IfSome, Result, Ok, Err}
+use Rattle.std.specs.Prelude.{◌≡◌, ◌≢◌, ℕ, ◌<◌, ⊤, All, List, [], ◌∷◌, length, Option, Some, None, IfSome, Result, Ok, Err}
 use Rattle.host_base.specs.Answers.{GivesOrFails}
+use Rattle.host_base.specs.Causes.{HasFailed, last_moment}
 use Rattle.disk_model.specs.declared.block.Change.{Change}
 use Rattle.disk_model.specs.Content.{Content}
 use Rattle.sector_device.specs.Moments.{Changes}
@@ -13,6 +14,7 @@ use Rattle.tree_model.specs.declared.reply.Reply.TheVariants as reply
 use Rattle.plans_lead.specs.step_model.Steps.{Step}
 use Rattle.plans_lead.specs.txn_state.States.{StateOf, facts_of}
 use Rattle.plans_lead.specs.txn_core.Views.{present_content}
+use Rattle.put_checks.specs.state_store.turn_laws.device_view.Devices.{GoesOnwards}
 use Rattle.put_checks.specs.state_store.declared.fault.PutFault.{PutFault}
 use Rattle.put_checks.specs.state_store.declared.fault.PutFault.TheVariants as faults
 use Rattle.put_checks.specs.state_store.Volumes.{geometry_of}
@@ -66,6 +68,17 @@ DoesStep op stamp m (Err why) (Some c) (Some d) = d ≡ c
 DoesStep op stamp m result (Some c) None = ⊥
 DoesStep op stamp m result None (Some d) = ⊥
 DoesStep op stamp m result None None = ⊤
+
+-- ---- failures
+
+-- What the device of a volume counts in an operation: its faults and its moment don't fall; `fault` is replied only where it failed; and no other answer passes over a failure, where the device's last
+-- moment hasn't come by then.
+pub record CountsChange {D : Type 0} (faults moment : D → ℕ) (result : Result Reply DoFault) (old new : D) : Type 0 where
+  pub onwards : GoesOnwards faults moment old new
+  pub fault : result ≡ Ok reply.Fault → HasFailed (faults old) (faults new) (moment new)
+  pub counted : moment new < last_moment → result ≢ Ok reply.Fault → faults new ≡ faults old
+
+-- ---- the whole
 
 -- The operation is done: by changes that were put, or weren't, the content and its map are those that its step leaves.
 pub record Does (op : Op) (stamp : ℕ) (table : List ℕ) (s : VolumeStreams) (result : Result Reply DoFault) (gives gave : Option (List (List ℕ))) (old new : StateOf) (before now : Changes) (m next : MapParts) : Type 0 where

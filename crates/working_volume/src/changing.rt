@@ -1,7 +1,5 @@
 //! Operations that write, fill or cut a file, done on a volume.
 ghost use Rattle.std.specs.Prelude.{◌≡◌, ◌<◌, true, false, All, None, IfOk, IfSome, IsErrOf, Ok, Err, length};
-ghost use Rattle.host_base.specs.Causes.{HasFailed};
-ghost use Rattle.tree_model.specs.declared.reply.Reply.TheVariants as replies;
 ghost use Rattle.tree_model.specs.Steps.{IsWithinBounds, is_given_up};
 ghost use Rattle.log_reading.specs.Rings.{IsRingPlace};
 ghost use Rattle.plans_lead.specs.map_change.Parts.{live_parts};
@@ -12,14 +10,15 @@ ghost use Rattle.plans_lead.specs.txn_core.Views.{present_content};
 ghost use Rattle.put_checks.specs.state_store.Volumes.{geometry_of, HoldsState};
 ghost use Rattle.put_checks.specs.state_store.Changes.{MayLog, AreApart, LeadsOn};
 ghost use Rattle.put_checks.specs.state_store.Rooms.{MayNumber};
-ghost use Rattle.put_checks.specs.state_store.Preparing.{KeepsSeen, FailsSeen};
+ghost use Rattle.put_checks.specs.state_store.Preparing.{KeepsSeen, FailsSeen, CountsSeen};
 ghost use Rattle.change_plan.specs.declared.fault.PlanFault.TheVariants as plan_faults;
+ghost use Rattle.change_plan.specs.Faults.{plan_cause};
 ghost use Rattle.change_plan.specs.States.{is_data_change};
 ghost use Rattle.change_plan.specs.Plans.{Plans};
 ghost use Rattle.put_checks.specs.Checks.{may_put};
 ghost use Rattle.working_volume.specs.declared.fault.DoFault.TheVariants as do_faults;
 ghost use Rattle.working_volume.specs.Ready.{IsReady, IsTaken};
-ghost use Rattle.working_volume.specs.Doing.{put_answer, Does};
+ghost use Rattle.working_volume.specs.Doing.{put_answer, Does, CountsChange};
 ghost use Rattle.working_volume.specs.Putting.{PutsPlan};
 
 use crate::fault::DoFault;
@@ -145,8 +144,9 @@ fn plan_on<D: Device>(
     ensures taken { IfOk result (λ plan. 0 < length plan.changes.items → IfSome (present_content (D.gives store.old.device) store.old.state) (IsTaken (facts_of store.old.state) (live_parts live.now) upper.now streams.now plan.changes.items)) }
     ensures kept_on { IfOk result (λ plan. is_given_up plan.reply ≡ false) }
     ensures sized { length room.new ≡ 65536 }
-    ensures kept { KeepsSeen D.gives D.sector_count D.changes_of D.fault_count store.old store.new }
+    ensures kept { KeepsSeen D.gives D.sector_count D.changes_of D.fault_count D.moment_of store.old store.new }
     ensures fault { IsErrOf result plan_faults.Fault → FailsSeen D.fault_count D.moment_of store.old store.new }
+    ensures counted { CountsSeen D.fault_count D.moment_of plan_cause result store.old store.new }
 {
     plans_lead_on();
     checks_are_met();
@@ -196,7 +196,7 @@ pub fn change_over<D: Device>(
     ensures named { AreNamesOf names.now (live_parts live.new).volume.files }
     ensures ready { IfSome (present_content (D.gives store.new.device) store.new.state) (IsReady (facts_of store.new.state) (live_parts live.new) upper.now streams.now) }
     ensures unknown { result ≡ Err do_faults.Unknown → D.gives store.old.device ≡ None }
-    ensures fault { result ≡ Ok replies.Fault → HasFailed (D.fault_count store.old.device) (D.fault_count store.new.device) (D.moment_of store.new.device) }
+    ensures counts { CountsChange D.fault_count D.moment_of result store.old.device store.new.device }
     ensures sectors { D.sector_count store.new.device ≡ D.sector_count store.old.device }
     ensures sized { length room.new ≡ 65536 }
 {

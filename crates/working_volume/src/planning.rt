@@ -36,7 +36,7 @@ pub fn plan_over<D: Device>(
     ensures known { IfSome (present_content (D.gives store.old.device) store.old.state) (KnowsFrom up.now (volume_in volume.now.map.now) streams.now result) }
     ensures sound { IfOk result (IsSound (present_content (D.gives store.old.device) store.old.state) op.now) }
     ensures sized { length room.new ≡ 65536 }
-    ensures kept { KeepsSeen D.gives D.sector_count D.changes_of D.fault_count store.old store.new }
+    ensures kept { KeepsSeen D.gives D.sector_count D.changes_of D.fault_count D.moment_of store.old store.new }
     ensures fault { IsErrOf result PlanFault.Fault → FailsSeen D.fault_count D.moment_of store.old store.new }
     ensures counted { CountsSeen D.fault_count D.moment_of plan_cause result store.old store.new }
 {

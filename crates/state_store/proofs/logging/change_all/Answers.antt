@@ -21,6 +21,7 @@ loop-change-preserved g c = record {
   changes = c.in-Ok.ensures.changes ∙ c.loop-change.invariant.changes;
   sectors = c.in-Ok.ensures.sectors ∙ c.loop-change.invariant.sectors;
   faults = c.in-Ok.ensures.cause ∙ c.loop-change.invariant.faults;
+  onwards = omega (arith, c.loop-change.invariant.onwards, c.in-Ok.ensures.onwards.onwards);
 }
 
 pub returns-clause-windows : goal.returns-clause-windows

@@ -1,4 +1,4 @@
-use Rattle.std.proofs.Common.{◌≡◌, drop}
+use Rattle.std.proofs.Common.{◌≡◌, ◌≤◌, drop}
 use Rattle.turn_laws.specs.txn_state.States.{facts_of}
 use Rattle.state_store.proofs.Going.{GoesOn}
 use Rattle.state_store.proofs.logging.change_all.Given as goal
@@ -10,4 +10,5 @@ invariant-loop-change g l = record {
   changes : g.D.Device.changes_of l.store.device ≡ g.D.Device.changes_of l.initial.store.device;
   sectors : g.D.Device.sector_count l.store.device ≡ g.D.Device.sector_count l.initial.store.device;
   faults : g.D.Device.fault_count l.store.device ≡ g.D.Device.fault_count l.initial.store.device;
+  onwards : g.D.Device.moment_of l.initial.store.device ≤ g.D.Device.moment_of l.store.device;
 }

@@ -23,4 +23,4 @@ pub returns-clause-history : goal.returns-clause-history
 returns-clause-history g c =
     rw (← c.self.view_is)
     (looked_trees g.D.Device.gives g.D.Device.sector_count g.D.Device.changes_of (record { store = c.self.inside.store; map = live_parts c.self.inside.live; table = c.self.inside.upper; streams = c.self.inside.streams })
-    (record { store = c.look_over.new.store; map = live_parts c.self.inside.live; table = c.self.inside.upper; streams = c.self.inside.streams }) refl c.look_over.ensures.kept.sectors g.D.Device.fault_count c.look_over.ensures.kept refl)
+    (record { store = c.look_over.new.store; map = live_parts c.self.inside.live; table = c.self.inside.upper; streams = c.self.inside.streams }) refl c.look_over.ensures.kept.sectors g.D.Device.fault_count g.D.Device.moment_of c.look_over.ensures.kept refl)
