@@ -1,1 +1,1 @@
-mod RunSteps
+pub mod RunSteps

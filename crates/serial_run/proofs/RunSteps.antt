@@ -32,11 +32,11 @@ at_place p [] i d lt is = absurd (omega arith)
 at_place p (x ∷ xs) zero d lt is = rw is refl
 at_place p (x ∷ xs) (suc i) d lt is = place_by (p x) x (filter p (take i xs)) (filter p xs) (Some (get_or xs i d)) (at_place p xs i d (omega arith) is)
 
-last_moment_push : (start : ℕ) (turns : List Turn) (t : Turn) → moment_of_last start (turns ++ t ∷ []) ≡ t.moment
+pub last_moment_push : (start : ℕ) (turns : List Turn) (t : Turn) → moment_of_last start (turns ++ t ∷ []) ≡ t.moment
 last_moment_push start [] t = refl
 last_moment_push start (u ∷ turns) t = last_moment_push u.moment turns t
 
-last_faults_push : (start : ℕ) (turns : List Turn) (t : Turn) → last_faults start (turns ++ t ∷ []) ≡ t.faults_after
+pub last_faults_push : (start : ℕ) (turns : List Turn) (t : Turn) → last_faults start (turns ++ t ∷ []) ≡ t.faults_after
 last_faults_push start [] t = refl
 last_faults_push start (u ∷ turns) t = last_faults_push u.faults_after turns t
 
@@ -45,7 +45,7 @@ own_by : (b : Bool) (start now later : ℕ) (turns : List Turn) (t : Turn) → l
 own_by true start now later turns t most le is = rw (last_faults_push start turns t) (omega (arith, is))
 own_by false start now later turns t most le is = rw (append-nil turns) (omega (arith, most, le))
 
-fault_push : (start now later client : ℕ) (turns : List Turn) (t : Turn) → last_faults start (own turns client) ≤ now → now ≤ later → t.faults_after ≡ later → last_faults start (own (turns ++ t ∷ []) client) ≤ later
+pub fault_push : (start now later client : ℕ) (turns : List Turn) (t : Turn) → last_faults start (own turns client) ≤ now → now ≤ later → t.faults_after ≡ later → last_faults start (own (turns ++ t ∷ []) client) ≤ later
 unfolding own
 fault_push start now later client turns t most le is = rw (filter-append (λ (u : Turn). u.client == client) turns (t ∷ [])) (own_by (t.client == client) start now later (filter (λ (u : Turn). u.client == client) turns) t most le is)
 
@@ -73,7 +73,7 @@ parts : (c : Command) (o : Op) (client number : ℕ) (asked : Op) → c.what ≡
 parts c o client number asked what is_client is_number is_asked = rw (is_client, is_number, is_asked) (ap (λ (w : What). record { client = c.client; number = c.number; what = w }) what)
 
 -- the turn's command is its client's next
-next_command : (script : List Command) (i : ℕ) (d : Command) (turns : List Turn) (t : Turn) (o : Op) → i < length script
+pub next_command : (script : List Command) (i : ℕ) (d : Command) (turns : List Turn) (t : Turn) (o : Op) → i < length script
     → (get_or script i d).what ≡ Operation o → t.client ≡ (get_or script i d).client → t.number ≡ (get_or script i d).number → t.op ≡ o
     → length (own turns t.client) ≡ length (turn_commands (take i script) t.client)
     → slice_get (turn_commands script t.client) (length (own turns t.client)) ≡ Some (record { client = t.client; number = t.number; what = Operation t.op })
@@ -101,7 +101,7 @@ next_turn upper tree next script time before i now moment later onwards d turns 
 }
 
 -- one turn more for its client
-each_push : (script : List Command) (i : ℕ) (d : Command) (turns : List Turn) (t : Turn) (o : Op) (client : ℕ) → i < length script
+pub each_push : (script : List Command) (i : ℕ) (d : Command) (turns : List Turn) (t : Turn) (o : Op) (client : ℕ) → i < length script
     → (get_or script i d).what ≡ Operation o → t.client ≡ (get_or script i d).client
     → length (own turns client) ≡ length (turn_commands (take i script) client)
     → length (own (turns ++ t ∷ []) client) ≡ length (turn_commands (take (i + 1) script) client)
@@ -115,7 +115,7 @@ each_push script i d turns t o client lt what is each =
     ∙ sym (length-filter_more (is_turn_command client) script i d lt)
 
 -- no turn more for a find
-each_kept : (script : List Command) (i : ℕ) (d : Command) (turns : List Turn) (name : List ℕ) (client : ℕ) → i < length script
+pub each_kept : (script : List Command) (i : ℕ) (d : Command) (turns : List Turn) (name : List ℕ) (client : ℕ) → i < length script
     → (get_or script i d).what ≡ Find name
     → length (own turns client) ≡ length (turn_commands (take i script) client)
     → length (own turns client) ≡ length (turn_commands (take (i + 1) script) client)
@@ -134,13 +134,13 @@ run_by upper (Some x) next script time before i now moment later onwards d turns
     segment_push (IsTreeTurn (run_start upper script time before next)) [] turns t x x x so_far.run (next_turn upper x next script time before i now moment later onwards d turns t o is lt what so_far it)
 
 -- all but the last, and the last
-front_all : (turns : List Turn) (t : Turn) → All IsSound (turns ++ t ∷ []) → All IsSound turns × IsSound t
+pub front_all : (turns : List Turn) (t : Turn) → All IsSound (turns ++ t ∷ []) → All IsSound turns × IsSound t
 front_all turns t all = (
   λ i d lt. subst IsSound (get_or_append_left turns (t ∷ []) d i lt) (all i d (rw (length-append turns (t ∷ [])) (omega (arith, lt)))),
   subst IsSound (get_or-append_seam turns t [] t) (all (length turns) t (rw (length-append turns (t ∷ [])) (omega arith))),
 )
 
-counted_on : (now later : ℕ) (turns : List Turn) → now ≤ later → IsCounted now turns → IsCounted later turns
+pub counted_on : (now later : ℕ) (turns : List Turn) → now ≤ later → IsCounted now turns → IsCounted later turns
 counted_on now later turns le counted = λ i d lt. omega (arith, le, counted i d lt)
 
 follows_by : (upper : List ℕ) (known : Option Tree) (next : ℕ) (script : List Command) (time before i now moment later onwards : ℕ) (d : Command) (turns new : List Turn) (w : What)
@@ -160,7 +160,7 @@ follows_by upper known next script time before i now moment later onwards d turn
       told = λ all.
           let parts = front_all turns t all in
           let sound = parts.1 in
-          let early : moment < last_moment = omega (arith, it.told.onwards, it.time, sound.0) in
+          let early : onwards < last_moment = omega (arith, it.time, sound.0) in
           it.told.counted early sound.1 ∙ so_far.told parts.0;
     })
 follows_by upper known next script time before i now moment later onwards d turns new (Find name) is lt what so_far follows =

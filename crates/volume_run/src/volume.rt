@@ -1,4 +1,4 @@
-ghost use Rattle.std.specs.Prelude.{◌≡◌, ◌≤◌, length, max};
+ghost use Rattle.std.specs.Prelude.{◌≡◌, ◌≤◌, length};
 ghost use Rattle.device_view.specs.Devices.{BorrowedDevice, borrowed};
 ghost use Rattle.volume_mount.specs.Trees.{tree_shown};
 
@@ -15,12 +15,12 @@ pub struct RunVolume<'a, D: Device> {
     device: &'a mut D,
     // Room for what is read ahead, one command after the other.
     room: &'a mut [u8],
-    // The device's faults when this was made.
+    // The device's faults and its moment when this was made.
     faults_before: u64,
-    // The latest moment of the device that was seen before the last command.
-    seen: u64,
+    moment_before: u64,
     ghost sized: { length room.now ≡ 65536 },
     pub ghost later: { faults_before ≤ D.fault_count device.now },
+    pub ghost onwards: { moment_before ≤ D.moment_of device.now },
 }
 
 impl<'a, D: Device> RunVolume<'a, D> {
@@ -31,16 +31,16 @@ impl<'a, D: Device> RunVolume<'a, D> {
         ensures tree { ⟦<RunVolume<'a, D> as AskedVolume>⟧.tree result ≡ tree_shown tree.now.mounted.now (D.gives device.entry.now) }
         ensures upper { ⟦<RunVolume<'a, D> as AskedVolume>⟧.upper result ≡ tree.now.mounted.now.upper }
         ensures faults { ⟦<RunVolume<'a, D> as AskedVolume>⟧.fault_count result ≡ D.fault_count device.entry.now }
-        ensures kept { ⟦<RunVolume<'a, D> as AskedVolume>⟧.kept result ≡ borrowed D.gives D.sector_count D.changes_of device.entry.ghost_name device.entry.now (D.fault_count device.entry.now) }
+        ensures kept { ⟦<RunVolume<'a, D> as AskedVolume>⟧.kept result ≡ borrowed D.gives D.sector_count D.changes_of device.entry.ghost_name device.entry.now (D.fault_count device.entry.now) (D.moment_of device.entry.now) }
     {
         let faults_before = device.faults();
-        let seen = device.moment();
+        let moment_before = device.moment();
         RunVolume {
             tree,
             device,
             room,
             faults_before,
-            seen,
+            moment_before,
         }
     }
 }
@@ -52,14 +52,13 @@ impl<'a, D: Device> AskedVolume for RunVolume<'a, D> {
 
     ghost Kept = { BorrowedDevice };
 
-    ghost kept = { λ v. borrowed D.gives D.sector_count D.changes_of v.device.ghost_name v.device.now v.faults_before };
+    ghost kept = { λ v. borrowed D.gives D.sector_count D.changes_of v.device.ghost_name v.device.now v.faults_before v.moment_before };
 
     ghost fault_count = { λ v. D.fault_count v.device.now };
 
-    ghost moment_of = { λ v. max v.seen (D.moment_of v.device.now) };
+    ghost moment_of = { λ v. D.moment_of v.device.now };
 
     fn answer(&mut self, alloc: Global, op: &Op) -> Reply {
-        self.seen = self.moment();
         self.tree.answer(alloc, self.room, self.device, op)
     }
 
@@ -68,6 +67,6 @@ impl<'a, D: Device> AskedVolume for RunVolume<'a, D> {
     }
 
     fn moment(&self) -> u64 {
-        self.seen.max(self.device.moment())
+        self.device.moment()
     }
 }
