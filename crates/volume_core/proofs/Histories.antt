@@ -128,10 +128,23 @@ module _ {D : Type 0} (gives : D → Option (List (List ℕ))) (count : D → �
     fewer put xs over t image left =
         mounts.put_leaves put (count old.store.device) (gives old.store.device) (gives new.store.device) (changes old.store.device) (changes new.store.device) old.store.state new.store.state old.map new.map xs t image over left
 
+    abbrev tree_by : Option (List (List ℕ)) → StoreFacts → MapParts → Option Tree
+    tree_by o f m = option_map (λ c. tree_of c m.volume) (option_map (λ disk. present_on disk f) o)
+
+    none_stays : Over (Ok tt) [] → (first : List (List ℕ)) (trees : List Tree) → HasHistory gives count changes old first trees → volume_tree gives new ≡ volume_tree gives old
+    none_stays over first trees h =
+        ap (λ (o : Option (List (List ℕ))). tree_by o (facts_of new.store.state) new.map) over.same
+        ∙ ap (λ (f : StoreFacts). tree_by (gives old.store.device) f new.map) over.facts
+        ∙ ap (tree_by (gives old.store.device) (facts_of old.store.state)) (same_map h.disk first h.mounted h.window trees h.given h.holds over)
+
+    left_stays : (why : PutFault) (xs : List Change) → Over (Err why) xs → volume_tree gives new ≡ volume_tree gives old
+    left_stays why xs over = ap (λ (o : Option Content). option_map (λ c. tree_of c new.map.volume) o) over.content ∙ ap (λ (m : MapParts). option_map (λ c. tree_of c m.volume) (present_content (gives old.store.device) old.store.state)) over.map
+
     goes_none : Over (Ok tt) [] → GoesOn gives count changes old new
     goes_none over = record {
       commits = inl over.commits;
       same = λ is. none_put over;
+      stays = λ is. none_stays over;
       more = λ is. absurd (suc_is_more old.store.state.commits (sym is ∙ over.commits));
       left = fewer (Ok tt) [] over;
     }
@@ -140,6 +153,7 @@ module _ {D : Type 0} (gives : D → Option (List (List ℕ))) (count : D → �
     goes_some (Ok tt) x xs over asked = record {
       commits = inr over.commits;
       same = λ is. absurd (suc_is_more old.store.state.commits (sym over.commits ∙ is));
+      stays = λ is. absurd (suc_is_more old.store.state.commits (sym over.commits ∙ is));
       more = λ is first trees h. record {
         tree = tree_of (present_on h.disk (facts_of new.store.state)) new.map.volume;
         present = present_is h.disk (over.same ∙ h.given);
@@ -150,6 +164,7 @@ module _ {D : Type 0} (gives : D → Option (List (List ℕ))) (count : D → �
     goes_some (Err why) x xs over asked = record {
       commits = inl over.commits;
       same = λ is first trees h. trees_behind (Err why) (x ∷ xs) first trees h over asked;
+      stays = λ is first trees h. left_stays why (x ∷ xs) over;
       more = λ is. absurd (suc_is_more old.store.state.commits (sym is ∙ over.commits));
       left = fewer (Err why) (x ∷ xs) over;
     }

@@ -35,11 +35,12 @@ pub record AddsTree {D : Type 0} (gives : D → Option (List (List ℕ))) (count
 abbrev pub LeavesNoMore : ℕ → Changes → Changes → Type 0
 LeavesNoMore count before now = (t : ℕ) (image : List (List ℕ)) → LeftSince count now t image → LeftSince count before t image
 
--- An operation: as many lists of changes were committed as before, and the trees are those that were; or one more was, and there is one tree more, the present one. Inside the call and behind it a
--- crash leaves nothing that it could not have left before.
+-- An operation: as many lists of changes were committed as before, the present tree stays, and the trees are those that were; or one more was, and there is one tree more, the present one. Inside the
+-- call and behind it a crash leaves nothing that it could not have left before.
 pub record GoesOn {D : Type 0} (gives : D → Option (List (List ℕ))) (count : D → ℕ) (changes : D → Changes) (old new : SeenVolume D) : Type 0 where
   pub commits : (new.store.state.commits ≡ old.store.state.commits) ⊎ (new.store.state.commits ≡ suc old.store.state.commits)
   pub same : new.store.state.commits ≡ old.store.state.commits → KeepsHistory gives count changes old new
+  pub stays : new.store.state.commits ≡ old.store.state.commits → (first : List (List ℕ)) (trees : List Tree) → HasHistory gives count changes old first trees → volume_tree gives new ≡ volume_tree gives old
   pub more : new.store.state.commits ≡ suc old.store.state.commits → (first : List (List ℕ)) (trees : List Tree) → HasHistory gives count changes old first trees → AddsTree gives count changes new first trees
   pub left : LeavesNoMore (count old.store.device) (changes old.store.device) (changes new.store.device)
 

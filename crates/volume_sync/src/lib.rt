@@ -13,4 +13,4 @@ mod syncing;
 pub use laws::{runs_join, turns_run};
 pub use rooming::make_room;
 pub use syncing::sync;
-pub use volume_core::{Failed, Volume};
+pub use volume_core::{DoFault, Failed, Volume};
