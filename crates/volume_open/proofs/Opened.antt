@@ -18,6 +18,7 @@ use Rattle.volume_core.specs.state_store.Volumes.{geometry_of, HoldsState, IsSta
 use Rattle.volume_core.specs.crash_trees.Trees.{IsMountedOn}
 use Rattle.volume_core.specs.crash_trees.Starts.{BeginsAsMounted}
 use Rattle.volume_core.specs.change_plan.States.{IsPlannable}
+use Rattle.volume_core.specs.plans_lead.txn_model.Values.{StoreFacts}
 use Rattle.volume_core.specs.plans_lead.Leading.{HasLogOf}
 use Rattle.volume_core.specs.working_volume.Ready.{IsReady}
 use Rattle.volume_core.specs.Volumes.{SeenVolume, present_tree}
@@ -98,6 +99,7 @@ module _ {D : Type 0} (gives : D → Option (List (List ℕ))) (count : D → �
           history = subst (λ (t : Tree). HasHistory gives count changes v first (t ∷ [])) same
               (history first start.disk start.mounted start.given (as_mounted (count v.store.device) first (gives v.store.device) (changes v.store.device) v.store.state v.map v.table s start));
           tree = ap (λ (o : Option (List (List ℕ))). present_tree o v.store.state v.map) start.given ∙ ap (λ (t : Tree). Some t) same;
+          durable = (let none = ap (λ (f : StoreFacts). f.commits) start.begins.begins.facts in omega (arith, none));
           map = start.map;
           table = start.table_is;
         }

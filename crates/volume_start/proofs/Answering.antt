@@ -16,29 +16,29 @@ use Rattle.file_puts.specs.declared.streams.VolumeStreams.{VolumeStreams}
 use Rattle.mounted_states.specs.image_open.declared.refusal.Refusal.{Refusal}
 use Rattle.mounted_states.specs.image_open.declared.refusal.MountFault.{MountFault}
 use Rattle.mounted_states.specs.image_open.declared.refusal.MountFault.TheVariants as mounts
-use Rattle.mounted_states.specs.image_open.Errors.{scan_cause}
+use Rattle.mounted_states.specs.image_open.Errors.{scan_cause, log_refusal}
 use Rattle.mounted_states.specs.image_open.LogPlaces.{LieAlike}
 use Rattle.mounted_states.specs.image_open.Writing.{found_by}
 use Rattle.mounted_states.proofs.image_open.Alike.{to_write_alike}
 use Rattle.mounted_states.specs.volume_mount.declared.mounted.Mounted.{Mounted}
 use Rattle.mounted_states.specs.volume_mount.Answers.{MountsAs}
-use Rattle.mounted_states.specs.volume_mount.Mounts.{mounted_of}
+use Rattle.mounted_states.specs.volume_mount.Mounts.{MountedVolume, mounted_of}
 use Rattle.txn_model.specs.Values.{StoreFacts}
 use Rattle.txn_model.specs.Calls.{first_facts}
 use Rattle.txn_state.specs.States.{StateOf}
 use Rattle.txn_mount.specs.declared.fault.StoreFault.{StoreFault}
 use Rattle.txn_mount.specs.declared.fault.StoreFault.TheVariants as stores
 use Rattle.txn_mount.specs.Faults.{store_cause}
-use Rattle.txn_mount.specs.Mounts.{StopsMount}
+use Rattle.txn_mount.specs.Mounts.{StopsMount, StaysRecovered}
 use Rattle.mounted_states.specs.safe_blocks.Safe.{MountsHoldStates}
 use Rattle.mounted_states.proofs.Opened.{mounted_parts, on_sectors}
 use Rattle.volume_start.specs.declared.fault.StartFault.{StartFault}
-use Rattle.volume_start.specs.declared.fault.StartFault.TheVariants.{Refused, Device, Unfit}
+use Rattle.volume_start.specs.declared.fault.StartFault.TheVariants.{Refused, Device, Memory, Unfit, Unknown}
 use Rattle.volume_start.specs.declared.plan.StartPlan.{StartPlan}
 use Rattle.volume_start.specs.Faults.{start_fault, fault_of_store}
 use Rattle.volume_start.specs.Fitting.{FitsStart}
 use Rattle.volume_start.specs.Plans.{PlansFrom, PlansOn}
-use Rattle.volume_start.specs.Starts.{StartsOn, BeginsAnywhere, RefusesAs, UnfitAs, IsUnfit, IsInMemory}
+use Rattle.volume_start.specs.Starts.{StartsOn, BeginsAnywhere, RefusesAs, UnfitAs, UnknownAs, IsUnfit, IsInMemory, StaysStarted}
 use Rattle.volume_start.proofs.Beginning.{Meant, meant_by, map_of_meant}
 
 -- ---- refusals
@@ -66,6 +66,9 @@ pub memory_fails : (fault : StartFault) → IsInMemory fault → fault ≡ Devic
 memory_fails fault (inl memory) same = cc
 memory_fails fault (inr (inl unfit)) same = cc
 memory_fails fault (inr (inr unknown)) same = cc
+
+same_volume : (a b : MountedVolume) → ◌≡◌ {A = Result MountedVolume Refusal} (Ok a) (Ok b) → a ≡ b
+same_volume a b is = cc
 
 module _ (law : MountsHoldStates) (first : List (List ℕ)) (plan : StartPlan) (count : ℕ) (fits : FitsStart count plan.place) (on : PlansOn first plan) where
   found : Meant first on.mounted
@@ -101,6 +104,12 @@ module _ (law : MountsHoldStates) (first : List (List ℕ)) (plan : StartPlan) (
   store_refuses stores.Memory is refusal same = absurd cc
   store_refuses stores.Broken is refusal same = absurd cc
 
+  -- what the store's mount left recovers alike by the volume's log
+  pub stays_started : (moment : ℕ) (old now : Changes) → StaysRecovered moment plan.place plan.kept.items old now → StaysStarted moment first old now
+  stays_started moment old now stays = λ m is.
+      subst (λ (x : MountedVolume). (place : LogPlace) × LieAlike place x.opened.place × StaysRecovered moment place (found_by x.opened.geometry) old now) (same_volume found.meant m (sym found.is ∙ is))
+      (plan.place, alike, subst (λ (xs : List Block). StaysRecovered moment plan.place xs old now) kept_is stays)
+
 -- ---- a volume that can't be changed
 
 -- no fault of the volume's mount says so
@@ -115,6 +124,38 @@ store_fits first (stores.Refused r) same = absurd cc
 store_fits first stores.Fault same = absurd cc
 store_fits first stores.Memory same = absurd cc
 store_fits first stores.Broken same = absurd cc
+
+-- where no session may be written
+pub mount_knows : (count : ℕ) (first : List (List ℕ)) (fault : MountFault) → UnknownAs count first (start_fault fault)
+mount_knows count first (mounts.Refused r) same = absurd cc
+mount_knows count first mounts.Device same = absurd cc
+mount_knows count first mounts.Memory same = absurd cc
+
+-- the store's mount says it of no known device
+pub store_knows : (known : Option (List (List ℕ))) (why : StoreFault) (e : StartFault) → e ≡ fault_of_store why → (why ≡ stores.Broken → known ≡ None) → IfSome known (λ first. e ≢ Unknown)
+store_knows None why e is unknown = tt
+store_knows (Some first) (stores.Refused r) e is unknown = λ same. (let not : Refused (log_refusal r) ≡ Unknown = sym is ∙ same in cc)
+store_knows (Some first) stores.Fault e is unknown = λ same. (let not : Device ≡ Unknown = sym is ∙ same in cc)
+store_knows (Some first) stores.Memory e is unknown = λ same. (let not : Memory ≡ Unknown = sym is ∙ same in cc)
+store_knows (Some first) stores.Broken e is unknown = absurd (let none = unknown refl in cc)
+
+-- and so no start on a plan does
+pub known_starts : (count : ℕ) (known now : Option (List (List ℕ))) {M D : Type 0} (r : Result M (StartFault × D)) → now ≡ known → IfSome now (λ first. IfErr r (λ e. e.0 ≢ Unknown)) → IfSome known (λ first. IfErr r (λ e. UnknownAs count first e.0))
+known_starts count known now {M} {D} r same never = by known (subst (λ (o : Option (List (List ℕ))). IfSome o (λ first. IfErr r (λ e. e.0 ≢ Unknown))) same never)
+  where
+    by : (o : Option (List (List ℕ))) → IfSome o (λ first. IfErr r (λ e. e.0 ≢ Unknown)) → IfSome o (λ first. IfErr r (λ e. UnknownAs count first e.0))
+    by None n = tt
+    by (Some first) n = of r n
+      where
+        of : (q : Result M (StartFault × D)) → IfErr q (λ e. e.0 ≢ Unknown) → IfErr q (λ e. UnknownAs count first e.0)
+        of (Ok m) n = tt
+        of (Err e) n = λ is. absurd (n is)
+
+pub unknown_on : (count : ℕ) (known : Option (List (List ℕ))) (mounted : Mounted) (r : Result StartPlan StartFault) → IfSome known (λ first. MountsAs (content_of (sector_of first)) (mounted_of first) (Ok mounted)) → (IsErrOf r Unknown → FitsStart count mounted.opening.place → ⊥)
+    → IfSome known (λ first. IfErr r (UnknownAs count first))
+unknown_on count None mounted r mounts unknown = tt
+unknown_on count (Some first) mounted (Ok p) mounts unknown = tt
+unknown_on count (Some first) mounted (Err e) mounts unknown = λ is. (mounted, mounts, unknown (ap (λ (x : StartFault). Err x) is))
 
 -- a plan that isn't made of a mounted volume says it of that one
 pub unfit_on : (known : Option (List (List ℕ))) (mounted : Mounted) (r : Result StartPlan StartFault) → IfSome known (λ first. MountsAs (content_of (sector_of first)) (mounted_of first) (Ok mounted)) → (IsErrOf r Unfit → IsUnfit mounted)

@@ -3,3 +3,4 @@ mod Fitted
 mod Beginning
 mod Anywhere
 mod Answering
+mod Staying

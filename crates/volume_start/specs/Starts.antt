@@ -25,6 +25,7 @@ use Rattle.mounted_states.specs.Starts.{BeginsWith}
 use Rattle.mounted_states.specs.Ready.{MayBeChanged}
 use Rattle.volume_start.specs.declared.fault.StartFault.{StartFault}
 use Rattle.volume_start.specs.declared.fault.StartFault.TheVariants.{Refused, Memory, Unfit, Unknown}
+use Rattle.volume_start.specs.Fitting.{FitsStart}
 use Rattle.volume_start.specs.Streams.{HasPlacedBits}
 
 -- The first sectors were mounted as this volume. It begins at rest over the store, on a device that gives these sectors then, with this map, this table of upper-case units and these streams, and has what operations ask that
@@ -61,6 +62,10 @@ IsUnfit mounted = (length mounted.opening.found.written.items ≢ length mounted
 -- it is answered of sectors that mount as such a volume
 abbrev pub UnfitAs : List (List ℕ) → StartFault → Type 0
 UnfitAs first fault = fault ≡ Unfit → (mounted : Mounted) × MountsAs (content_of (sector_of first)) (mounted_of first) (Ok mounted) × IsUnfit mounted
+
+-- it is answered of sectors that mount as a volume of which no session may be written where its log lies, on a device of so many sectors
+abbrev pub UnknownAs : ℕ → List (List ℕ) → StartFault → Type 0
+UnknownAs count first fault = fault ≡ Unknown → (mounted : Mounted) × MountsAs (content_of (sector_of first)) (mounted_of first) (Ok mounted) × (FitsStart count mounted.opening.place → ⊥)
 
 -- it is no refusal, and no failure of a device
 abbrev pub IsInMemory : StartFault → Type 0

@@ -7,7 +7,8 @@ ghost use Rattle.mounted_states.specs.map_change.Parts.{geometry_in};
 ghost use Rattle.mounted_states.specs.map_change.Plain.{is_plain};
 ghost use Rattle.mounted_states.specs.image_open.Writing.{found_by};
 ghost use Rattle.volume_start.specs.Plans.{PlansFrom, PlansOn, FitsPlan};
-ghost use Rattle.volume_start.specs.Starts.{RefusesAs, UnfitAs, IsUnfit, IsInMemory};
+ghost use Rattle.volume_start.specs.Fitting.{FitsStart};
+ghost use Rattle.volume_start.specs.Starts.{RefusesAs, UnfitAs, UnknownAs, IsUnfit, IsInMemory};
 
 use crate::fault::StartFault;
 use crate::fitting::fits_start;
@@ -95,6 +96,7 @@ fn planned(alloc: Global, sectors: u64, mounted: Mounted) -> Result<StartPlan, S
     ensures plan { IfOk result (PlansFrom mounted) }
     ensures fits { IfOk result (FitsPlan sectors) }
     ensures unfit { IsErrOf result StartFault.Unfit → IsUnfit mounted }
+    ensures unknown { IsErrOf result StartFault.Unknown → FitsStart sectors mounted.opening.place → ⊥ }
     ensures never { IfErr result IsInMemory }
 {
     if !puts_all(&mounted.opening.found) {
@@ -134,6 +136,7 @@ pub fn prepare<D: Device>(alloc: Global, device: &mut D) -> Result<StartPlan, St
     ensures fits { IfOk result (FitsPlan (D.sector_count device.old)) }
     ensures refused { IfSome (D.gives device.old) (λ first. IfErr result (RefusesAs first)) }
     ensures unfit { IfSome (D.gives device.old) (λ first. IfErr result (UnfitAs first)) }
+    ensures unknown { IfSome (D.gives device.old) (λ first. IfErr result (UnknownAs (D.sector_count device.old) first)) }
     ensures kept { KeepsDevice D.gives D.sector_count D.changes_of D.fault_count D.moment_of device.old device.new }
     ensures fault { IsErrOf result StartFault.Device → HasFailed (D.fault_count device.old) (D.fault_count device.new) (D.moment_of device.new) }
 {

@@ -6,7 +6,7 @@ ghost use Rattle.mounted_states.specs.map_change.Parts.{live_parts};
 ghost use Rattle.mounted_states.specs.volume_tree.Named.{AreNamesOf};
 ghost use Rattle.volume_start.specs.Faults.{device_behind};
 ghost use Rattle.volume_start.specs.Plans.{PlansOn, FitsPlan};
-ghost use Rattle.volume_start.specs.Starts.{StartsOn, BeginsAnywhere, RefusesAs, UnfitAs};
+ghost use Rattle.volume_start.specs.Starts.{StartsOn, BeginsAnywhere, RefusesAs, UnfitAs, UnknownAs, StaysStarted};
 ghost use Rattle.volume_start.specs.declared.fault.StartFault.TheVariants as faults;
 
 use crate::fault::StartFault;
@@ -50,9 +50,11 @@ fn begin<D: Device>(
     ensures anywhere { IfOk result (λ s. BeginsAnywhere (D.gives device) (D.gives s.store.device) s.store.state) }
     ensures named { IfOk result (λ s. AreNamesOf s.names s.live.map.files.items) }
     ensures sized { IfOk result (λ s. length s.room.items ≡ 65536) }
+    ensures stays { IfSome (D.gives device) (λ first. StaysStarted (D.moment_of device) first (D.changes_of device) (D.changes_of (device_behind result (λ s. s.store.device)))) }
     ensures sectors { D.sector_count (device_behind result (λ s. s.store.device)) ≡ D.sector_count device }
     ensures fault { IfErr result (λ e. e.0 ≡ faults.Device → HasFailed (D.fault_count device) (D.fault_count e.1) (D.moment_of e.1)) }
     ensures refused { IfSome (D.gives device) (λ first. IfErr result (λ e. RefusesAs first e.0)) }
+    ensures known { IfSome (D.gives device) (λ first. IfErr result (λ e. e.0 ≢ faults.Unknown)) }
     ensures unfit { IfSome (D.gives device) (λ first. IfErr result (λ e. UnfitAs first e.0)) }
     ensures unwritten { IfErr result (λ e. e.0 ≢ faults.Device → KeepsDevice D.gives D.sector_count D.changes_of D.fault_count D.moment_of device e.1) }
 {
@@ -94,24 +96,26 @@ fn begin<D: Device>(
 /// operations need, and then mounts a store where it lies ([`txn_mount::mount`]), which recovers it
 /// by its log and opens a session there.
 ///
-/// It costs what both mounts do. Each error gives the device back.
-/// - [`StartFault::Refused`]: the volume isn't mounted, with the mount's first refusal; the device
-///   was only read.
+/// It costs what both mounts do. Each error gives the device back, which was only read unless the
+/// answer is [`StartFault::Device`]. Whatever is answered, an image that a crash leaves inside the
+/// start or behind it could be left before, or is recovered to the same content.
+/// - [`StartFault::Refused`]: the volume isn't mounted, with the mount's first refusal.
 /// - [`StartFault::Device`]: the device failed.
-/// - [`StartFault::Memory`]: want of memory, before anything was written.
+/// - [`StartFault::Memory`]: want of memory.
 /// - [`StartFault::Unfit`]: the bits of the volume's clusters don't all lie in clusters below their
 ///   initialised size, or the log has a torn block that has its recovered bytes already, for which
-///   no bytes of a disk stand untorn; nothing was written.
-/// - [`StartFault::Unknown`]: no session may be written where the log was found; nothing was
-///   written.
+///   no bytes of a disk stand untorn.
+/// - [`StartFault::Unknown`]: no session may be written where the log was found.
 pub fn start<D: Device>(alloc: Global, mut device: D) -> Result<Started<D>, (StartFault, D)>
     ensures starts { IfOk result (λ s. StartsOn D.gives D.sector_count D.changes_of device s.store.device s.store.state (live_parts s.live) s.upper s.streams) }
     ensures anywhere { IfOk result (λ s. BeginsAnywhere (D.gives device) (D.gives s.store.device) s.store.state) }
     ensures named { IfOk result (λ s. AreNamesOf s.names s.live.map.files.items) }
     ensures sized { IfOk result (λ s. length s.room.items ≡ 65536) }
+    ensures stays { IfSome (D.gives device) (λ first. StaysStarted (D.moment_of device) first (D.changes_of device) (D.changes_of (device_behind result (λ s. s.store.device)))) }
     ensures sectors { D.sector_count (device_behind result (λ s. s.store.device)) ≡ D.sector_count device }
     ensures fault { IfErr result (λ e. e.0 ≡ faults.Device → HasFailed (D.fault_count device) (D.fault_count e.1) (D.moment_of e.1)) }
     ensures refused { IfSome (D.gives device) (λ first. IfErr result (λ e. RefusesAs first e.0)) }
+    ensures unknown { IfSome (D.gives device) (λ first. IfErr result (λ e. UnknownAs (D.sector_count device) first e.0)) }
     ensures unfit { IfSome (D.gives device) (λ first. IfErr result (λ e. UnfitAs first e.0)) }
     ensures unwritten { IfErr result (λ e. e.0 ≢ faults.Device → KeepsDevice D.gives D.sector_count D.changes_of D.fault_count D.moment_of device e.1) }
 {

@@ -1,3 +1,7 @@
+use Rattle.std.proofs.Common.{subst, sym}
+use Rattle.std.specs.Prelude.{IfSome}
+use Rattle.volume_core.specs.txn_core.Seen.{Seen}
+use Rattle.volume_start.specs.Starts.{StaysStarted}
 use Rattle.map_change.specs.Parts.{live_parts}
 use Rattle.volume_open.proofs.Opened.{holds, ready, opens_by}
 use Rattle.volume_open.proofs.opening.mount.Goals as goal
@@ -13,3 +17,7 @@ over-requires-clause-ready g c =
 pub returns-in-Ok-clause-opened : goal.returns-in-Ok-clause-opened
 returns-in-Ok-clause-opened g c =
     opens_by g.D.Device.gives g.D.Device.sector_count g.D.Device.changes_of c.args.device c.requires.settled c.in-Ok.started.store (live_parts c.in-Ok.started.live) c.in-Ok.started.upper c.in-Ok.started.streams c.over.result c.over.ensures.store c.over.ensures.map c.over.ensures.table c.in-Ok.ensures.starts c.over.ensures.starts
+
+pub returns-in-Ok-clause-stays : goal.returns-in-Ok-clause-stays
+returns-in-Ok-clause-stays g c =
+    subst (λ (s : Seen g.row.D.Denot). IfSome (g.D.Device.gives c.args.device) (λ first. StaysStarted (g.D.Device.moment_of c.args.device) first (g.D.Device.changes_of c.args.device) (g.D.Device.changes_of s.device))) (sym c.over.ensures.store) c.in-Ok.ensures.stays

@@ -12,7 +12,8 @@ use Rattle.volume_start.specs.Starts.{RefusesAs}
 use Rattle.volume_start.proofs.Fitted.{log_place}
 use Rattle.volume_start.proofs.Beginning.{started_then}
 use Rattle.volume_start.proofs.Anywhere.{begins_anywhere}
-use Rattle.volume_start.proofs.Answering.{store_refuses}
+use Rattle.volume_start.proofs.Answering.{store_refuses, store_knows}
+use Rattle.volume_start.proofs.Staying.{begun_stays}
 use Rattle.volume_start.proofs.starting.begin.Goals as goal
 
 pub mount-requires-clause-log : goal.mount-requires-clause-log
@@ -33,3 +34,14 @@ pub returns-in-Err-clause-refused : goal.returns-in-Err-clause-refused
 returns-in-Err-clause-refused g c =
     both _ (λ first. PlansOn first c.args.plan) (λ first. ExplainsOrFails (store_cause c.in-Err.fault) (to_write_in (content_of (sector_of first)) c.args.plan.place c.args.plan.kept.items)) (λ first. RefusesAs first c.from.result)
     (λ first on said. subst (RefusesAs first) (sym c.from.ensures) (store_refuses c.mounts_hold_states.ensures first c.args.plan (g.D.Device.sector_count c.args.device) c.requires.fits.fits on c.in-Err.fault said)) c.requires.on c.in-Err.ensures.refusals
+
+pub returns-in-Ok-clause-stays : goal.returns-in-Ok-clause-stays
+returns-in-Ok-clause-stays g c =
+    begun_stays c.mounts_hold_states.ensures (g.D.Device.gives c.args.device) c.args.plan (g.D.Device.sector_count c.args.device) c.requires.fits.fits (g.D.Device.moment_of c.args.device) (g.D.Device.changes_of c.args.device) (g.D.Device.changes_of c.in-Ok.mounted.store.device) c.requires.on c.in-Ok.ensures.images
+
+pub returns-in-Err-clause-stays : goal.returns-in-Err-clause-stays
+returns-in-Err-clause-stays g c =
+    begun_stays c.mounts_hold_states.ensures (g.D.Device.gives c.args.device) c.args.plan (g.D.Device.sector_count c.args.device) c.requires.fits.fits (g.D.Device.moment_of c.args.device) (g.D.Device.changes_of c.args.device) (g.D.Device.changes_of c.in-Err.device) c.requires.on c.in-Err.ensures.images
+
+pub returns-in-Err-clause-known : goal.returns-in-Err-clause-known
+returns-in-Err-clause-known g c = store_knows (g.D.Device.gives c.args.device) c.in-Err.fault c.from.result c.from.ensures c.in-Err.ensures.broken
