@@ -1,0 +1,4 @@
+mod Blanks
+mod States
+mod Carrying
+mod Steps

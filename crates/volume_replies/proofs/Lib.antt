@@ -1,0 +1,4 @@
+pub mod Laps
+pub mod Trying
+mod Roomed
+mod Looked
