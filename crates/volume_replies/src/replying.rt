@@ -38,8 +38,8 @@ fn sync_reply<D: Device>(volume: &mut Volume<D>, turns: u64) -> Reply
 /// 1601-01-01, or a sync ([`volume_sync::sync`]), which says that all of so many turns before it are
 /// durable.
 ///
-/// `Reply::Fault`: the device failed; `Reply::Memory`: want of memory, never of a sync. It costs what
-/// these calls do.
+/// `Reply::Fault` and `Reply::Memory` come as these calls say, `Reply::Memory` never of a sync. It
+/// costs what they do.
 pub fn reply_to<D: Device>(
     volume: &mut Volume<D>,
     alloc: Global,

@@ -88,9 +88,11 @@ fn make_and_try<D: Device>(
 ///
 /// `Reply::Fault`: the device failed, in a step too; or what was read is part of no state, only where
 /// what it gives isn't known. `Reply::Memory`: want of memory; or the log has no room even where
-/// none of its pages is used, or no number for a transaction or a lap, which comes only behind 2^32
-/// of them. It takes the time and memory of the operation, once more for each time that room is made,
-/// and of these steps.
+/// none of its pages is used, or no number left for a transaction, of which there are 2^32, or for a
+/// lap, of which a mount leaves 2^16.
+///
+/// It takes the time and memory of the operation, once more for each time that room is made, and of
+/// these steps.
 pub fn change_with_room<D: Device>(
     volume: &mut Volume<D>,
     alloc: Global,
