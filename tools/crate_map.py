@@ -7,7 +7,7 @@ floors: a crate's floor is one above the highest floor of those that it stands o
 `_images` are those of tests, and have a table of their own.
 
 With --check nothing is written, and the status is 1 where the tables aren't those that would be written, or where crates.txt
-has more ways down than MOST_WAYS: the kit's `rt ci` goes each way from a crate down to the ground, some two milliseconds a way, so
+has more ways down than MOST_WAYS: the kit's `rt ci` goes each way from a crate down to the ground, under half a millisecond a way, so
 a crate lists few libraries and names the others through these (CONTRIBUTING.md). With --ways the ways down from each crate are
 printed, most first.
 """
@@ -21,7 +21,7 @@ PAGE = TOP / "docs" / "MAP.md"
 BEGIN = "<!-- The tables from here on are written by tools/crate_map.py. -->"
 END = "<!-- The tables end here. -->"
 TESTS = ("_rows", "_images")
-MOST_WAYS = 400_000
+MOST_WAYS = 800_000
 
 
 def named():
