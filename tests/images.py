@@ -161,14 +161,14 @@ def wide_volume(bitmap):
     return with_records(made, *records, journal_file(64, JOURNAL_LIMITS, cluster=13, sectors=8))
 
 
-def asked_volume(bitmap, log_pages=513, initialised=None):
-    """The same files without a change journal, in 544 clusters of eight sectors of which these bits are set: a log of so many pages, all FF, of which so
-    many are initialised, from cluster 16 on."""
-    made = TINY.ljust((544 * 8 + 1) * SECTOR, b"\0")
+def asked_volume(bitmap, log_pages=513, initialised=None, clusters=544, log_size=None):
+    """The same files without a change journal, in so many clusters of eight sectors of which these bits are set: a log of so many pages, all FF, of which
+    so many are initialised, from cluster 16 on; its size may be another one than that of its pages."""
+    made = TINY.ljust((clusters * 8 + 1) * SECTOR, b"\0")
     log_bytes = 4096 * (log_pages if initialised is None else initialised)
-    made = changed(made, (0x28, struct.pack("<Q", 544 * 8)), (0x0D, b"\x08"), (0x30, b"\x01"), (0x38, b"\x07"), (0x40, b"\xf6"), (0x44, b"\x01"))
+    made = changed(made, (0x28, struct.pack("<Q", clusters * 8)), (0x0D, b"\x08"), (0x30, b"\x01"), (0x38, b"\x07"), (0x40, b"\xf6"), (0x44, b"\x01"))
     made = changed(made, (TABLE, bytes(32 * RECORD)), (16 * 4096, b"\xff" * log_bytes))
-    table, log = mapped(0, 8, bytes([0x11, 8, 1, 0]), 8), in_clusters(0, 0x80, "", 0, log_pages, 4096 * log_pages, struct.pack("<BHBB", 0x12, log_pages, 16, 0), sectors=8)
+    table, log = mapped(0, 8, bytes([0x11, 8, 1, 0]), 8), in_clusters(0, 0x80, "", 0, log_pages, log_size or 4096 * log_pages, struct.pack("<BHBB", 0x12, log_pages, 16, 0), sectors=8)
     if initialised is not None:
         log = changed(log, (0x38, struct.pack("<Q", log_bytes)))
     files = in_use(table, log, bitmap, mapped(2, 1, bytes([0x11, 1, 12, 0]), 8))
@@ -205,3 +205,10 @@ ONE_LIST = with_records(ASKED, (26, 1, IN_USE, [attribute for attribute in LISTS
 UNMARKED = asked_volume(bits(544, *ASKED_CLUSTERS[1:]))
 IN_FIRST = (25, 1, IN_USE, [information(), named(1, 5, BOTH, "f"), mapped(2, 1, bytes([0x11, 1, 0, 0]), 8)])
 FIRST_GIVEN = with_records(ASKED, IN_FIRST)
+# The same files in 614 clusters, of which 88 are free, with the bits of these in cluster 13, so that scripts may change them.
+WRITABLE_BITS = bits(614, *ASKED_CLUSTERS, 13)
+IN_CLUSTER = (6, 6, IN_USE, [mapped(0, 1, bytes([0x11, 1, 13, 0]), 8)])
+WRITABLE = changed(with_records(asked_volume(WRITABLE_BITS, clusters=614), IN_CLUSTER), (13 * 4096, WRITABLE_BITS))
+# Of another such volume the log's last page isn't whole.
+ODD_BITS = bits(614, *ASKED_CLUSTERS, 529, 13)
+ODD_LOG = changed(with_records(asked_volume(ODD_BITS, 514, clusters=614, log_size=4096 * 513 + 512), IN_CLUSTER), (13 * 4096, ODD_BITS))

@@ -9,7 +9,7 @@ from volumes import library, run
 
 LIBRARY = "libntfs-3g"
 PACKAGES = {
-    "ntfs-3g": ["mkntfs", "ntfscp", "ntfsinfo", "ntfsls", LIBRARY],
+    "ntfs-3g": ["mkntfs", "ntfscp", "ntfscat", "ntfsfix", "ntfsinfo", "ntfsls", LIBRARY],
     "sleuthkit": ["fls", "istat", "fsstat"],
 }
 

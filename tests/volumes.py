@@ -75,6 +75,7 @@ def library():
             ("ntfs_inode_close", ctypes.c_int, [pointer]),
             ("ntfs_attr_open", pointer, [pointer, number, pointer, number]),
             ("ntfs_attr_pwrite", ctypes.c_int64, [pointer, ctypes.c_int64, ctypes.c_int64, text]),
+            ("ntfs_attr_pread", ctypes.c_int64, [pointer, ctypes.c_int64, ctypes.c_int64, pointer]),
             ("ntfs_attr_close", None, [pointer]),
             ("ntfs_attr_pclose", ctypes.c_int, [pointer]),
             ("ntfs_attr_remove", ctypes.c_int, [pointer, number, pointer, number]),
@@ -145,6 +146,15 @@ class Volume:
         done = self.calls.ntfs_attr_pclose(stream) == 0 and done
         self.calls.ntfs_attr_close(stream)
         return self.calls.ntfs_inode_close(node) == 0 and done
+
+    def read(self, path, count, at):
+        """At most so many bytes of the data of a file from there on."""
+        node, front = self.folder(path), ctypes.create_string_buffer(count)
+        stream = self.calls.ntfs_attr_open(node, 0x80, None, 0)
+        got = self.calls.ntfs_attr_pread(stream, at, count, front)
+        self.calls.ntfs_attr_close(stream)
+        self.calls.ntfs_inode_close(node)
+        return front.raw[: max(got, 0)]
 
     def stream(self, path, name, data):
         node, units = self.folder(path), name.encode("utf-16-le")

@@ -10,8 +10,8 @@ use Rattle.tree_model.specs.declared.script.What.TheVariants.{Op as Operation}
 use Rattle.tree_model.specs.declared.script.Command.{Command}
 use Rattle.tree_model.specs.Steps.{IsWithinBounds}
 use Rattle.run_model.specs.declared.turn.Turn.{Turn}
-use Rattle.volume_replies.specs.Replies.{is_replied}
-use Rattle.change_run.specs.Turns.{IsReplied, AllReplied, IsBlank, AreBlank}
+use Rattle.script_text.specs.Asking.{is_asked, IsAsked, AllAsked}
+use Rattle.change_run.specs.Turns.{IsBlank, AreBlank}
 
 -- some command, where a list asks for one
 abbrev pub no_command : Command
@@ -33,11 +33,11 @@ blank_more script turns i d u many lt blank one = (
   ],
 )
 
--- what such a turn asks for is replied to
-by_what : (w : What) (o : Op) → w ≡ Operation o → IsReplied w → (is_replied o ≡ true) × IsWithinBounds o
-by_what w o is replied = subst IsReplied is replied
+-- what such a turn asks for is within bounds
+by_what : (w : What) (o : Op) → w ≡ Operation o → IsAsked w → (is_asked o ≡ true) × IsWithinBounds o
+by_what w o is replied = subst IsAsked is replied
 
-pub asks : (script : List Command) (i : ℕ) (c : Command) (serial : ℕ) (t : Turn) → AllReplied script → i < length script → IsBlank (get_or script i c) serial t → (is_replied t.op ≡ true) × IsWithinBounds t.op
+pub asks : (script : List Command) (i : ℕ) (c : Command) (serial : ℕ) (t : Turn) → AllAsked script → i < length script → IsBlank (get_or script i c) serial t → (is_asked t.op ≡ true) × IsWithinBounds t.op
 asks script i c serial t all lt blank = by_what (get_or script i c).what t.op blank.what (all i c lt)
 
 -- all of them, where all of a script's were made

@@ -17,13 +17,14 @@ use Rattle.tree_model.specs.declared.reply.Reply.TheVariants.{Synced}
 use Rattle.txn_state.specs.States.{facts_of}
 use Rattle.volume_replies.specs.txn_laws.Windows.{lap_behind}
 use Rattle.volume_replies.specs.volume_core.txn_mount.Mountable.{IsFar}
+use Rattle.volume_replies.specs.volume_core.crash_trees.crash_mounts.Mounting.{MountsTree}
 use Rattle.volume_replies.specs.volume_core.crash_trees.Mounting.{MountsAsOne}
 use Rattle.volume_replies.specs.volume_core.Volumes.{SeenVolume, volume_tree}
-use Rattle.volume_replies.specs.volume_core.Histories.{LeavesTrees, undurable}
+use Rattle.volume_replies.specs.volume_core.Histories.{HasHistory, LeavesTrees, undurable}
 use Rattle.volume_replies.specs.volume_core.Calls.{GoesOn}
 use Rattle.volume_replies.specs.volume_sync.Runs.{RunsOn}
 use Rattle.volume_replies.specs.volume_sync.Syncs.{LeavesNewest}
-use Rattle.change_run.specs.Turns.{IsVolumeTurn, MountsTree, LeftOf}
+use Rattle.change_run.specs.Turns.{IsVolumeTurn, LeftOf}
 use Rattle.change_run.specs.Runs.{StartsAs, CarriesOn}
 use Rattle.change_run.proofs.States.{all_more, quiet_more, goes_on, present_state, present_left}
 
@@ -39,7 +40,7 @@ left_earlier count t u [] image less left = left
 left_earlier count t u (p ∷ ps) image less (inl here) = inl ((let b = here.0 in omega (arith, less, b)), here.1)
 left_earlier count t u (p ∷ ps) image less (inr rest) = inr (left_earlier count t u ps image less rest)
 
-since_earlier : (count t u : ℕ) (changes : Changes) (image : List (List ℕ)) → u ≤ t → LeftSince count changes t image → LeftSince count changes u image
+pub since_earlier : (count t u : ℕ) (changes : Changes) (image : List (List ℕ)) → u ≤ t → LeftSince count changes t image → LeftSince count changes u image
 since_earlier count t u changes image less = go changes.disk
   where
     go : (o : Option Disk) → IfSome o (λ disk. MayLeave count disk image ⊎ WasLeft count changes.past t image) → IfSome o (λ disk. MayLeave count disk image ⊎ WasLeft count changes.past u image)
@@ -48,7 +49,7 @@ since_earlier count t u changes image less = go changes.disk
     go (Some d) (inr was) = inr (left_earlier count t u changes.past image less was)
 
 -- since the present moment, or a later one, nothing but the present disk
-now_left : (count u t : ℕ) (changes : Changes) (image : List (List ℕ)) → AreOver u changes.past → u ≤ t → LeftSince count changes t image → MayLeaveNow count changes image
+pub now_left : (count u t : ℕ) (changes : Changes) (image : List (List ℕ)) → AreOver u changes.past → u ≤ t → LeftSince count changes t image → MayLeaveNow count changes image
 now_left count u t changes image over le = go changes.disk
   where
     go : (o : Option Disk) → IfSome o (λ disk. MayLeave count disk image ⊎ WasLeft count changes.past t image) → IfSome o (λ disk. MayLeave count disk image)
@@ -56,14 +57,14 @@ now_left count u t changes image over le = go changes.disk
     go (Some d) (inl now) = now
     go (Some d) (inr was) = absurd (over_left count u t changes.past image over le was)
 
-now_since : (count t : ℕ) (changes : Changes) (image : List (List ℕ)) → MayLeaveNow count changes image → LeftSince count changes t image
+pub now_since : (count t : ℕ) (changes : Changes) (image : List (List ℕ)) → MayLeaveNow count changes image → LeftSince count changes t image
 now_since count t changes image = go changes.disk
   where
     go : (o : Option Disk) → IfSome o (λ disk. MayLeave count disk image) → IfSome o (λ disk. MayLeave count disk image ⊎ WasLeft count changes.past t image)
     go None now = tt
     go (Some d) now = inl now
 
-above : (t u : ℕ) → nat_le t u ≡ false → u ≤ t
+pub above : (t u : ℕ) → nat_le t u ≡ false → u ≤ t
 above t u h = (let high = leb-false t u h in omega (arith, high))
 
 -- ---- trees, by how many commits back they are
@@ -78,6 +79,32 @@ first_only (suc n) le = absurd (omega (arith, le))
 farther : (p q : LogPlace) (lap less : ℕ) → q ≡ p → less ≤ lap → IsFar q lap → IsFar p less
 farther p q lap less same le far = (let there : IsFar p lap = subst (λ (x : LogPlace). IsFar x lap) same far in omega (arith, le, there))
 
+mounts_as : (trees : List Tree) (most : ℕ) (image : List (List ℕ)) (m : MountsAsOne trees most image) → MountsTree image m.tree
+mounts_as trees most image m = record { now = m.now; mounts = m.mounts; stands = m.stands }
+
+newest_mounts : (trees : List Tree) (now : Tree) (image : List (List ℕ)) → slice_get trees 0 ≡ Some now → MountsAsOne trees 0 image → MountsTree image now
+newest_mounts trees now image newest m =
+    let at : slice_get trees 0 ≡ Some m.tree = subst (λ (n : ℕ). slice_get trees n ≡ Some m.tree) (first_only m.back m.within) m.is_tree in
+    subst (MountsTree image) (same_some m.tree now (sym at ∙ newest)) (mounts_as trees 0 image m)
+
+-- ---- a volume now
+
+module _ {D : Type 0} (gives : D → Option (List (List ℕ))) (count : D → ℕ) (changes : D → Changes) (moment : D → ℕ) (over : (d : D) → AreOver (moment d) (changes d).past) (first : List (List ℕ)) (tree : Tree) where
+  pub starts_now : (v : SeenVolume D) → LeavesTrees gives count changes v → (older : List Tree) → HasHistory gives count changes v first (tree ∷ older) → undurable v ≡ 0 → volume_tree gives v ≡ Some tree
+      → StartsAs gives count changes v (moment v.store.device) first tree
+  starts_now v leaves older has durable present = record {
+    older = older;
+    has = has;
+    durable = durable;
+    present = present;
+    left = λ far t image le left.
+        let now = now_left (count v.store.device) (moment v.store.device) t (changes v.store.device) image (over v.store.device) le left in
+        let m = subst (λ (n : ℕ). MountsAsOne (tree ∷ older) n image) durable (leaves.left first (tree ∷ older) image has far now) in
+        newest_mounts (tree ∷ older) tree image refl m;
+  }
+
+-- ---- a run
+
 module _ {D : Type 0} (gives : D → Option (List (List ℕ))) (count : D → ℕ) (changes : D → Changes) (moment : D → ℕ) (over : (d : D) → AreOver (moment d) (changes d).past) (f : RunStart) (since : ℕ) (first : List (List ℕ)) (tree : Tree) where
   abbrev Step : List Turn → Turn → Tree → Tree → Type 0
   Step past t x y = IsVolumeTurn f past t x y
@@ -85,18 +112,10 @@ module _ {D : Type 0} (gives : D → Option (List (List ℕ))) (count : D → �
   abbrev Carries : List Turn → SeenVolume D → Type 0
   Carries turns v = CarriesOn gives count changes f since first tree turns v
 
-  mounts_as : (trees : List Tree) (most : ℕ) (image : List (List ℕ)) (m : MountsAsOne trees most image) → MountsTree image m.tree
-  mounts_as trees most image m = record { now = m.now; mounts = m.mounts; stands = m.stands }
-
-  newest_mounts : (trees : List Tree) (now : Tree) (image : List (List ℕ)) → slice_get trees 0 ≡ Some now → MountsAsOne trees 0 image → MountsTree image now
-  newest_mounts trees now image newest m =
-      let at : slice_get trees 0 ≡ Some m.tree = subst (λ (n : ℕ). slice_get trees n ≡ Some m.tree) (first_only m.back m.within) m.is_tree in
-      subst (MountsTree image) (same_some m.tree now (sym at ∙ newest)) (mounts_as trees 0 image m)
-
   -- ---- at the start
 
-  pub begins : (v : SeenVolume D) → since ≡ moment v.store.device → LeavesTrees gives count changes v → StartsAs gives count changes v first tree → Carries [] v
-  begins v is_since leaves s = record {
+  pub begins : (v : SeenVolume D) → StartsAs gives count changes v since first tree → Carries [] v
+  begins v s = record {
     trees = tree ∷ s.older;
     has = s.has;
     now = tree;
@@ -107,10 +126,7 @@ module _ {D : Type 0} (gives : D → Option (List (List ℕ))) (count : D → �
     each = λ back other le is.
         let at : Some tree ≡ Some other = subst (λ (n : ℕ). slice_get (tree ∷ s.older) n ≡ Some other) (first_only back (let none = s.durable in omega (arith, le, none))) is in
         subst (λ (x : Tree). IsSyncedState Step [] tree tree x) (same_some tree other at) (present_state Step [] tree tree refl (All-nil (λ (t : Turn). HoldsSynced 0 t.reply)));
-    leaves = λ far t image le left.
-        let now = now_left (count v.store.device) (moment v.store.device) t (changes v.store.device) image (over v.store.device) (omega (arith, le, is_since)) left in
-        let m = subst (λ (n : ℕ). MountsAsOne (tree ∷ s.older) n image) s.durable (leaves.left first (tree ∷ s.older) image s.has far now) in
-        ∣ present_left Step [] tree tree t (MountsTree image) refl (All-nil (λ (u : Turn). HoldsSynced 0 u.reply)) (newest_mounts (tree ∷ s.older) tree image refl m) ∣₁;
+    leaves = λ far t image le left. ∣ present_left Step [] tree tree t (MountsTree image) refl (All-nil (λ (u : Turn). HoldsSynced 0 u.reply)) (s.left far t image le left) ∣₁;
   }
 
   -- ---- steps of the store

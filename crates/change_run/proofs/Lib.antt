@@ -1,4 +1,5 @@
 mod Blanks
+pub mod Bounds
 mod States
-mod Carrying
+pub mod Carrying
 mod Steps

@@ -1,5 +1,5 @@
 -- One command more of a run.
-use Rattle.std.proofs.Common.{◌≡◌, ◌⊎◌, subst, ℕ, ◌+◌, ◌-◌, ◌<◌, ◌≤◌, Bool, true, false, cond, List, [], ◌∷◌, ◌++◌, length, take, get_or, Option, Some, None, Ok, All, refl, sym, ap, ◌∙◌, inl, inr, arith}
+use Rattle.std.proofs.Common.{◌≡◌, ◌⊎◌, subst, ℕ, ◌+◌, ◌-◌, ◌*◌, ◌<◌, ◌≤◌, Bool, true, false, cond, List, [], ◌∷◌, ◌++◌, length, take, get_or, Option, Some, None, Ok, All, refl, sym, ap, ◌∙◌, inl, inr, arith}
 use Rattle.std.specs.Prelude.{◌≢◌, filter, ◌==◌, IfSome}
 use Rattle.std.proofs.lemmas.List.{append-nil}
 use Rattle.std.proofs.lemmas.List.Elements.{filter-append, All-nil, All-push}
@@ -21,14 +21,18 @@ use Rattle.run_model.proofs.Segments.{segment_push}
 use Rattle.step_model.specs.Steps.{Answer, Done, Refused, Never, answer_of}
 use Rattle.step_model.proofs.Stepping.{answers_listed}
 use Rattle.serial_run.specs.Runs.{run_start, IsSound}
+use Rattle.volume_replies.specs.log_area.Areas.{ring_size}
+use Rattle.txn_state.specs.States.{facts_of}
 use Rattle.serial_run.proofs.RunSteps.{last_moment_push, fault_push, next_command, each_push, counted_on, front_all}
 use Rattle.volume_replies.specs.volume_core.Volumes.{SeenVolume, volume_tree}
-use Rattle.volume_replies.specs.volume_core.Histories.{LeavesTrees}
 use Rattle.volume_replies.specs.volume_core.Trees.{StepsTo, StepsTree}
-use Rattle.volume_replies.specs.Replies.{RepliesOn, SyncsOn, is_replied, Answers}
+use Rattle.script_text.specs.Asking.{is_asked}
+use Rattle.volume_replies.specs.Replies.{BeginsAtMost, RepliesOn, SyncsOn, Answers}
+use Rattle.volume_replies.proofs.Laps.{none_most}
 use Rattle.volume_replies.proofs.Trying.{goes_nowhere}
 use Rattle.change_run.specs.Turns.{IsVolumeTurn, IsBlank, IsTurnOn}
 use Rattle.change_run.specs.Runs.{RunsTree, StartsAs, CarriesOn, RunsSoFar}
+use Rattle.change_run.proofs.Bounds.{begins_more}
 use Rattle.change_run.proofs.Carrying.{begins, behind_runs, behind_turn, behind_sync}
 
 -- ---- replies
@@ -37,7 +41,7 @@ same_answer : (a b : Answer) (o : Op) (said : Reply) → answer_of o said ≡ a 
 same_answer a b o said one two = sym one ∙ two
 
 -- an operation that isn't a sync never says how many turns are durable
-never_synced : (o : Op) (n : ℕ) → is_replied o ≡ true → o ≢ op.Sync → answer_of o (Synced n) ≡ Never
+never_synced : (o : Op) (n : ℕ) → is_asked o ≡ true → o ≢ op.Sync → answer_of o (Synced n) ≡ Never
 never_synced (op.Stat path) n is other = refl
 never_synced (op.List path) n is other = refl
 never_synced (op.Read path offset count) n is other = refl
@@ -58,14 +62,14 @@ no_row upper o stamp n t u has never None is done = (let e : Done ≡ Never = sa
 no_row upper o stamp n t u has never (Some row) is said =
     (let e : Refused ≡ Never = same_answer Refused Never o (Synced n) (subst (λ (r : Reply). answer_of o r ≡ Refused) (sym said.0) (answers_listed.refused upper t 0 o row has is)) never in cc)
 
-quiet : (upper : List ℕ) (o : Op) (stamp : ℕ) (said : Reply) (t u : Tree) → is_replied o ≡ true → o ≢ op.Sync → StepsTo upper o stamp said t u → TellsNoSync said
+quiet : (upper : List ℕ) (o : Op) (stamp : ℕ) (said : Reply) (t u : Tree) → is_asked o ≡ true → o ≢ op.Sync → StepsTo upper o stamp said t u → TellsNoSync said
 quiet upper o stamp (Synced n) t u is other steps =
     let s = steps.step refl in
     absurd (no_row upper o stamp n t u s.0 (never_synced o n is other) (step_refusal upper t 0 [] o) refl s.1)
 quiet upper o stamp said t u is other steps = tt
 
 -- the turn of an operation that isn't a sync takes its step
-takes : (upper : List ℕ) (time : ℕ) (past : List Turn) (t : Turn) (o : Op) (said : Reply) (x y : Tree) → is_replied o ≡ true → o ≢ op.Sync → StepsTo upper o (time + t.serial) said x y → TakesStep (λ op stamp r u v. StepsTo upper op stamp r u v) time past t o said x y
+takes : (upper : List ℕ) (time : ℕ) (past : List Turn) (t : Turn) (o : Op) (said : Reply) (x y : Tree) → is_asked o ≡ true → o ≢ op.Sync → StepsTo upper o (time + t.serial) said x y → TakesStep (λ op stamp r u v. StepsTo upper op stamp r u v) time past t o said x y
 takes upper time past t (op.Stat path) said x y is other step = step
 takes upper time past t (op.List path) said x y is other step = step
 takes upper time past t (op.Read path offset count) said x y is other step = step
@@ -112,24 +116,29 @@ module _ {D : Type 0} (gives : D → Option (List (List ℕ))) (count moment fau
   none_tree f None = tt
   none_tree f (Some x) = refl
 
-  pub none_yet : (v : SeenVolume D) → LeavesTrees gives count changes v → SoFar 0 [] v v
+  pub none_yet : (v : SeenVolume D) → SoFar 0 [] v v
   unfolding own turn_commands
-  none_yet v leaves = record {
+  none_yet v = record {
     each = λ client. refl;
     serials = λ client. omega arith;
     moments = omega arith;
+    onwards = omega arith;
+    after = All-nil (λ (u : Turn). moment v.store.device ≤ u.moment);
     last = λ client. omega arith;
     later = omega arith;
     counted = All-nil (λ (u : Turn). u.faults_after ≤ faults v.store.device);
     told = λ all. refl;
     table = refl;
+    sectors = refl;
+    place = refl;
+    begins = none_most (0 * ring_size v.store.state.log) (facts_of v.store.state);
     tree = none_tree (start v) (volume_tree gives v);
-    carries = λ first tree s. begins gives count changes moment over (start v) (moment v.store.device) first tree v refl leaves s;
+    carries = λ since first tree s. begins gives count changes moment over (start v) since first tree v s;
   }
 
   -- ---- one more
 
-  module _ (i : ℕ) (turns : List Turn) (old v new : SeenVolume D) (blank t : Turn) (c : Command) (lt : i < length script) (here : length turns ≡ i) (is_blank : IsBlank (get_or script i c) (i + 1) blank) (replied : is_replied blank.op ≡ true) (so_far : SoFar i turns old v)
+  module _ (i : ℕ) (turns : List Turn) (old v new : SeenVolume D) (blank t : Turn) (c : Command) (lt : i < length script) (here : length turns ≡ i) (is_blank : IsBlank (get_or script i c) (i + 1) blank) (replied : is_asked blank.op ≡ true) (so_far : SoFar i turns old v)
       (on : IsTurnOn gives count moment faults changes time blank t v new) where
     serial_is : t.serial ≡ length turns + 1
     serial_is = (let a = on.serial in let b = is_blank.place in omega (arith, a, b, here))
@@ -156,7 +165,7 @@ module _ {D : Type 0} (gives : D → Option (List (List ℕ))) (count moment fau
     failed = said ≡ Fault → HasFailed (faults v.store.device) (faults new.store.device) (moment new.store.device)
 
     -- what was answered
-    answered : (o : Op) (stamp k : ℕ) → is_replied o ≡ true → Answers gives count moment changes o stamp k said v new → ((o ≡ op.Sync) × SyncsOn gives count moment changes k said v new) ⊎ ((o ≢ op.Sync) × RepliesOn gives count moment changes o stamp (Ok said) v new)
+    answered : (o : Op) (stamp k : ℕ) → is_asked o ≡ true → Answers gives count moment changes o stamp k said v new → ((o ≡ op.Sync) × SyncsOn gives count moment changes k said v new) ⊎ ((o ≢ op.Sync) × RepliesOn gives count moment changes o stamp (Ok said) v new)
     answered op.Sync stamp k is a = inl (refl, a)
     answered (op.Stat path) stamp k is a = inr ((λ e. cc), a)
     answered (op.List path) stamp k is a = inr ((λ e. cc), a)
@@ -190,17 +199,23 @@ module _ {D : Type 0} (gives : D → Option (List (List ℕ))) (count moment fau
         on.told.counted (let a = on.time_is in let b = sound.0 in omega (arith, a, b)) sound.1 ∙ so_far.told parts.0
 
     -- the rest of a run so far, whatever was answered
-    with_tree : new.table ≡ old.table → RunsTree (start old) (turns ++ t ∷ []) (volume_tree gives old) (volume_tree gives new)
-        → ((first : List (List ℕ)) (tree : Tree) → StartsAs gives count changes old first tree → CarriesOn gives count changes (start old) (moment old.store.device) first tree (turns ++ t ∷ []) new) → SoFar (i + 1) (turns ++ t ∷ []) old new
-    with_tree table tree carries = record {
+    with_tree : new.table ≡ old.table → count new.store.device ≡ count v.store.device → new.store.state.place ≡ v.store.state.place → BeginsAtMost ((i + 1) * ring_size old.store.state.log) (facts_of old.store.state) (facts_of new.store.state)
+        → RunsTree (start old) (turns ++ t ∷ []) (volume_tree gives old) (volume_tree gives new)
+        → ((since : ℕ) (first : List (List ℕ)) (tree : Tree) → StartsAs gives count changes old since first tree → CarriesOn gives count changes (start old) since first tree (turns ++ t ∷ []) new) → SoFar (i + 1) (turns ++ t ∷ []) old new
+    with_tree table sectors place begun tree carries = record {
       each = each_on;
       serials = serials_on;
       moments = rw (last_moment_push 0 turns t) (let a = on.time_is in omega (arith, a));
+      onwards = (let a = so_far.onwards in let b = on.told.onwards in omega (arith, a, b));
+      after = All-push (λ (u : Turn). moment old.store.device ≤ u.moment) turns t so_far.after (let a = so_far.onwards in let b = on.told.onwards in let d = on.time_is in omega (arith, a, b, d));
       last = λ client. fault_push (faults old.store.device) (faults v.store.device) (faults new.store.device) client turns t (so_far.last client) on.told.later on.last;
       later = (let a = so_far.later in let b = on.told.later in omega (arith, a, b));
       counted = All-push (λ (u : Turn). u.faults_after ≤ faults new.store.device) turns t (counted_on (faults v.store.device) (faults new.store.device) turns on.told.later so_far.counted) (let a = on.last in omega (arith, a));
       told = told_on;
       table = table;
+      sectors = sectors ∙ so_far.sectors;
+      place = place ∙ so_far.place;
+      begins = begun;
       tree = tree;
       carries = carries;
     }
@@ -226,18 +241,19 @@ module _ {D : Type 0} (gives : D → Option (List (List ℕ))) (count moment fau
       next_of_step y None steps = absurd steps
       next_of_step y (Some z) steps = (z, refl, steps)
 
-      carries_on : (first : List (List ℕ)) (tree : Tree) → StartsAs gives count changes old first tree → CarriesOn gives count changes (start old) (moment old.store.device) first tree (turns ++ t ∷ []) new
-      carries_on first tree s =
-          let carried = behind_runs gives count changes moment over (start old) (moment old.store.device) first tree turns v r.mid (so_far.carries first tree s) r.runs in
+      carries_on : (since : ℕ) (first : List (List ℕ)) (tree : Tree) → StartsAs gives count changes old since first tree → CarriesOn gives count changes (start old) since first tree (turns ++ t ∷ []) new
+      carries_on since first tree s =
+          let carried = behind_runs gives count changes moment over (start old) since first tree turns v r.mid (so_far.carries since first tree s) r.runs in
           let known : volume_tree gives v ≡ Some carried.now = sym r.runs.tree ∙ carried.present in
           let next = next_of_step carried.now (volume_tree gives new) (subst (λ (x : Option Tree). StepsTree v.table blank.op (time + blank.serial) (Ok said) x (volume_tree gives new)) known r.tree) in
           let fault : failed = subst (λ (x : Option Tree). IfSome x (λ y. failed)) known on.told.failed in
           let journal = subst (λ (x : Option Tree). IfSome x (λ y. y.journal ≡ None)) next.1 on.journal in
-          behind_turn gives count changes moment over (start old) (moment old.store.device) first tree turns t next.0 r.mid new carried
+          behind_turn gives count changes moment over (start old) since first tree turns t next.0 r.mid new carried
           (turn_of carried.now next.0 fault journal (step_of carried.now next.0 next.2)) (quiet v.table blank.op (time + blank.serial) said carried.now next.0 replied other next.2) next.1 r.place r.laps r.sectors r.durable r.goes
 
       pub operation_more : SoFar (i + 1) (turns ++ t ∷ []) old new
-      operation_more = with_tree (r.table ∙ so_far.table) (tree_on (volume_tree gives old) (volume_tree gives v) (volume_tree gives new) so_far.tree r.tree on.told.failed on.journal) carries_on
+      operation_more = with_tree (r.table ∙ so_far.table) (r.sectors ∙ r.runs.sectors) (r.place ∙ r.runs.place) (begins_more i (facts_of old.store.state) (facts_of v.store.state) (facts_of r.mid.store.state) (facts_of new.store.state) so_far.begins r.runs.begins_none r.begins)
+          (tree_on (volume_tree gives old) (volume_tree gives v) (volume_tree gives new) so_far.tree r.tree on.told.failed on.journal) carries_on
 
     -- ---- a sync
 
@@ -259,24 +275,25 @@ module _ {D : Type 0} (gives : D → Option (List (List ℕ))) (count moment fau
       sync_tree None (Some b) run fault journal = absurd run
       sync_tree None None run fault journal = tt
 
-      carries_sync : (first : List (List ℕ)) (tree : Tree) → StartsAs gives count changes old first tree → CarriesOn gives count changes (start old) (moment old.store.device) first tree (turns ++ t ∷ []) new
-      carries_sync first tree s =
-          let carried = behind_runs gives count changes moment over (start old) (moment old.store.device) first tree turns v new (so_far.carries first tree s) r.runs in
+      carries_sync : (since : ℕ) (first : List (List ℕ)) (tree : Tree) → StartsAs gives count changes old since first tree → CarriesOn gives count changes (start old) since first tree (turns ++ t ∷ []) new
+      carries_sync since first tree s =
+          let carried = behind_runs gives count changes moment over (start old) since first tree turns v new (so_far.carries since first tree s) r.runs in
           let known : volume_tree gives v ≡ Some carried.now = sym r.runs.tree ∙ carried.present in
           let fault : failed = subst (λ (x : Option Tree). IfSome x (λ y. failed)) known on.told.failed in
           let journal = subst (λ (x : Option Tree). IfSome x (λ y. y.journal ≡ None)) carried.present on.journal in
           let turn = turn_of carried.now carried.now fault journal (taken carried.now) in
           by carried turn r.reply
         where
-          by : (carried : CarriesOn gives count changes (start old) (moment old.store.device) first tree turns new) → IsVolumeTurn (start old) turns t carried.now carried.now → (said ≡ Synced (blank.serial - 1)) ⊎ (said ≡ Fault)
-              → CarriesOn gives count changes (start old) (moment old.store.device) first tree (turns ++ t ∷ []) new
+          by : (carried : CarriesOn gives count changes (start old) since first tree turns new) → IsVolumeTurn (start old) turns t carried.now carried.now → (said ≡ Synced (blank.serial - 1)) ⊎ (said ≡ Fault)
+              → CarriesOn gives count changes (start old) since first tree (turns ++ t ∷ []) new
           by carried turn (inl is) =
-              behind_sync gives count changes moment over (start old) (moment old.store.device) first tree turns t new carried turn (is ∙ ap (λ (n : ℕ). Synced n) k_is) on.time_is (r.durable is) (r.newest is)
+              behind_sync gives count changes moment over (start old) since first tree turns t new carried turn (is ∙ ap (λ (n : ℕ). Synced n) k_is) on.time_is (r.durable is) (r.newest is)
           by carried turn (inr is) =
-              behind_turn gives count changes moment over (start old) (moment old.store.device) first tree turns t carried.now new new carried turn (subst TellsNoSync (sym is) tt) carried.present refl (omega arith) refl refl (goes_nowhere gives count changes new)
+              behind_turn gives count changes moment over (start old) since first tree turns t carried.now new new carried turn (subst TellsNoSync (sym is) tt) carried.present refl (omega arith) refl refl (goes_nowhere gives count changes new)
 
       pub sync_more : SoFar (i + 1) (turns ++ t ∷ []) old new
-      sync_more = with_tree (r.runs.table ∙ so_far.table)
+      sync_more = with_tree (r.runs.table ∙ so_far.table) r.runs.sectors r.runs.place
+          (begins_more i (facts_of old.store.state) (facts_of v.store.state) (facts_of new.store.state) (facts_of new.store.state) so_far.begins r.runs.begins_none (none_most (ring_size new.store.state.log) (facts_of new.store.state)))
           (subst (λ (x : Option Tree). RunsTree (start old) (turns ++ t ∷ []) (volume_tree gives old) x) (sym r.runs.tree)
           (sync_tree (volume_tree gives old) (volume_tree gives v) so_far.tree on.told.failed (subst (λ (x : Option Tree). IfSome x (λ y. y.journal ≡ None)) r.runs.tree on.journal))) carries_sync
 

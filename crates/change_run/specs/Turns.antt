@@ -1,40 +1,23 @@
 -- The turns of a run on a volume that they change.
-use Rattle.std.specs.Prelude.{◌≡◌, ℕ, ◌+◌, ◌-◌, ◌<◌, true, List, length, get_or, Option, None, Ok, All, IfSome}
+use Rattle.std.specs.Prelude.{◌≡◌, ℕ, ◌+◌, ◌-◌, ◌<◌, List, length, get_or, Option, None, IfSome}
 use Rattle.sector_device.specs.Moments.{Changes, LeftSince}
 use Rattle.file_tree.specs.declared.tree.Tree.{Tree}
-use Rattle.tree_model.specs.declared.script.What.{What}
-use Rattle.tree_model.specs.declared.script.What.TheVariants.{Op as Operation, Find}
+use Rattle.tree_model.specs.declared.script.What.TheVariants.{Op as Operation}
 use Rattle.tree_model.specs.declared.script.Command.{Command}
-use Rattle.tree_model.specs.Steps.{IsWithinBounds}
 use Rattle.run_model.specs.declared.turn.Turn.{Turn}
 use Rattle.run_model.specs.Runs.{RunStart, IsTurn, next_in_tree}
 use Rattle.serial_run.specs.Volumes.{TellsFaults}
-use Rattle.volume_replies.specs.volume_core.volume_mount.Mounts.{MountedVolume, tree_in, mounted_of}
 use Rattle.volume_replies.specs.volume_core.Volumes.{SeenVolume, volume_tree}
 use Rattle.volume_replies.specs.volume_core.Trees.{StepsTo}
-use Rattle.volume_replies.specs.Replies.{is_replied, Answers}
+use Rattle.volume_replies.specs.Replies.{Answers}
 
 -- A turn, behind those before it, from the one tree to the other: a step of it, but where a full record refuses the operation, of which a tree doesn't tell; then it stays.
 abbrev pub IsVolumeTurn : RunStart → List Turn → Turn → Tree → Tree → Type 0
 IsVolumeTurn f past t x y = IsTurn next_in_tree (λ op stamp said u v. StepsTo f.upper op stamp said u v) f past t x y
 
--- a crash left an image that mounts as this tree
-pub record MountsTree (image : List (List ℕ)) (tree : Tree) : Type 0 where
-  pub now : MountedVolume
-  pub mounts : mounted_of image ≡ Ok now
-  pub stands : tree_in now ≡ tree
-
 -- what a crash since a moment may have left of a volume's device
 abbrev pub LeftOf : {D : Type 0} → (D → ℕ) → (D → Changes) → SeenVolume D → ℕ → List (List ℕ) → Type 0
 LeftOf count changes v t image = LeftSince (count v.store.device) (changes v.store.device) t image
-
--- a command that a volume replies to, within its bounds; a find isn't one
-abbrev pub IsReplied : What → Type 0
-IsReplied (Operation op) = (is_replied op ≡ true) × IsWithinBounds op
-IsReplied (Find name) = ⊥
-
-abbrev pub AllReplied : List Command → Type 0
-AllReplied script = All (λ (c : Command). IsReplied c.what) script
 
 -- a turn of a command before it is run: whose it is, and what it asks for
 pub record IsBlank (c : Command) (serial : ℕ) (t : Turn) : Type 0 where

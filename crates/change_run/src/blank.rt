@@ -1,7 +1,8 @@
 //! The turns of a script before it is run.
 ghost use Rattle.std.specs.Prelude.{◌≡◌, ◌+◌, [], ◌∷◌, ◌++◌, IfOk, OnOk, length};
 ghost use Rattle.run_model.specs.declared.turn.Turn.{Turn as the_turn};
-ghost use Rattle.change_run.specs.Turns.{IsReplied, AllReplied, IsBlank, AreBlank};
+ghost use Rattle.script_text.specs.Asking.{IsAsked, AllAsked};
+ghost use Rattle.change_run.specs.Turns.{IsBlank, AreBlank};
 
 use host_base::Memory;
 use run_model::Turn;
@@ -10,7 +11,7 @@ use tree_model::{Command, Reply, Script, What};
 
 // The turn of a command, of which nothing was replied yet.
 fn blank_turn(command: &Command, serial: u64) -> Result<Turn, Memory>
-    requires replied { IsReplied command.now.what }
+    requires asked { IsAsked command.now.what }
     ensures { IfOk result (IsBlank command.now serial) }
 {
     match &command.what {
@@ -31,7 +32,7 @@ fn blank_turn(command: &Command, serial: u64) -> Result<Turn, Memory>
 
 // Appends the turn of the next command.
 fn add_turn(command: &Command, turns: &mut Vec<Turn>) -> Result<(), Memory>
-    requires replied { IsReplied command.now.what }
+    requires asked { IsAsked command.now.what }
     ensures { OnOk result ((turn : the_turn) × IsBlank command.now (length turns.old.items + 1) turn × (turns.new.items ≡ turns.old.items ++ turn ∷ [])) }
 {
     let serial = turns.len() as u64 + 1;
@@ -43,7 +44,7 @@ fn add_turn(command: &Command, turns: &mut Vec<Turn>) -> Result<(), Memory>
 /// take all memory that the turns need, so that none wants any for itself later. The error is want of
 /// memory. Linear in the script.
 pub fn blank_turns(alloc: Global, script: &Script) -> Result<Vec<Turn>, Memory>
-    requires replied { AllReplied script.now }
+    requires asked { AllAsked script.now }
     ensures { IfOk result (λ turns. AreBlank script.now turns.items) }
 {
     let mut turns: Vec<Turn> = Vec::new(alloc);

@@ -1,6 +1,7 @@
 //! A run.
 ghost use Rattle.std.specs.Prelude.{◌≡◌, ◌+◌, ◌^◌, ◌<◌, length, IfErr, IfOk};
-ghost use Rattle.change_run.specs.Turns.{AllReplied, AreBlank};
+ghost use Rattle.script_text.specs.Asking.{AllAsked};
+ghost use Rattle.change_run.specs.Turns.{AreBlank};
 ghost use Rattle.change_run.specs.Runs.{RunsSoFar};
 
 use crate::blank::blank_turns;
@@ -29,12 +30,11 @@ pub fn run_turns<R: Threads + Wait, D: Device, G: Gate>(
     gate: &G,
     turns: &mut [Turn],
 )
-    requires replied { AllReplied script.now }
+    requires asked { AllAsked script.now }
     requires blank { AreBlank script.now turns.old }
     requires early { time + length script.now < 2 ^ 63 }
     ensures { RunsSoFar D.gives D.sector_count D.moment_of D.fault_count D.changes_of script.now time (length script.now) turns.new volume.old volume.new }
 {
-    volume.left();
     let _ = script;
     for i in 0..turns.len() {
         gate.pass(rt, turns[i].client, turns[i].number);
@@ -52,7 +52,7 @@ pub fn change_run<R: Threads + Wait, D: Device, G: Gate>(
     time: u64,
     gate: &G,
 ) -> Result<Vec<Turn>, Memory>
-    requires replied { AllReplied script.now }
+    requires asked { AllAsked script.now }
     requires early { time + length script.now < 2 ^ 63 }
     ensures runs { IfOk result (λ turns. RunsSoFar D.gives D.sector_count D.moment_of D.fault_count D.changes_of script.now time (length script.now) turns.items volume.old volume.new) }
     ensures undone { IfErr result (λ _. volume.new ≡ volume.old) }

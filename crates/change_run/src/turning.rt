@@ -1,7 +1,7 @@
 //! One turn of a run.
 ghost use Rattle.std.specs.Prelude.{◌≡◌, ◌+◌, ◌^◌, ◌<◌, true};
 ghost use Rattle.tree_model.specs.Steps.{IsWithinBounds};
-ghost use Rattle.volume_replies.specs.Replies.{is_replied};
+ghost use Rattle.script_text.specs.Asking.{is_asked};
 ghost use Rattle.change_run.specs.Turns.{IsTurnOn};
 
 use run_model::Turn;
@@ -13,7 +13,7 @@ use volume_replies::{Volume, reply_to};
 /// 1601-01-01: its operation is done at the time of its serial, and the turn gets its reply, and what
 /// the device counted before and after it.
 pub fn take_turn<D: Device>(volume: &mut Volume<D>, alloc: Global, time: u64, turn: &mut Turn)
-    requires replied { is_replied turn.old.op ≡ true }
+    requires asked { is_asked turn.old.op ≡ true }
     requires bounds { IsWithinBounds turn.old.op }
     requires some { 0 < turn.old.serial }
     requires early { time + turn.old.serial < 2 ^ 63 }

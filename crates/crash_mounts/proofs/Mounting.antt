@@ -44,16 +44,16 @@ use Rattle.crash_mounts.proofs.Clearing.{none_shadowed}
 -- ---- the first mount
 
 -- how it was opened, and that its log has its pages, which lie on the device
-record FirstParts (c : Content) (sectors : ℕ) (m : MountedVolume) : Type 0 where
-  opened : opened_to_write_in c sectors ≡ Ok m.opened
-  pages : has_pages m.opened.place ≡ Ok tt
-  volume : Volume
-  lies : pages_lie m.opened.place volume ≡ Ok tt
+pub record FirstParts (c : Content) (sectors : ℕ) (m : MountedVolume) : Type 0 where
+  pub opened : opened_to_write_in c sectors ≡ Ok m.opened
+  pub pages : has_pages m.opened.place ≡ Ok tt
+  pub volume : Volume
+  pub lies : pages_lie m.opened.place volume ≡ Ok tt
 
 unit_is : (r : Result (Unit {0}) Refusal) (x : Unit {0}) → r ≡ Ok x → r ≡ Ok tt
 unit_is r tt is = is
 
-first_parts : (c : Content) (sectors : ℕ) (m : MountedVolume) → mounted_in c sectors ≡ Ok m → FirstParts c sectors m
+pub first_parts : (c : Content) (sectors : ℕ) (m : MountedVolume) → mounted_in c sectors ≡ Ok m → FirstParts c sectors m
 unfolding mounted_in mounted_by loaded_on tried unjournaled paged settled placed changeable
 first_parts c sectors m is =
     let first = steps_from_ok (opened_to_write_in c sectors) (mounted_by c) m is in
@@ -104,18 +104,18 @@ same_restart r q is = cc
 same_volume : (read : Result Volume MapRefusal) (v u : Volume) → read ≡ Ok v → read ≡ Ok u → v ≡ u
 same_volume read v u p q = cc
 
-some_sectors : (disk : List (List ℕ)) (m : MountedVolume) → mounted_of disk ≡ Ok m → (nat_lt 0 (length disk) ≡ true) × (mounted_in (content_of (sector_of disk)) (length disk) ≡ Ok m)
+pub some_sectors : (disk : List (List ℕ)) (m : MountedVolume) → mounted_of disk ≡ Ok m → (nat_lt 0 (length disk) ≡ true) × (mounted_in (content_of (sector_of disk)) (length disk) ≡ Ok m)
 unfolding mounted_of
 some_sectors disk m is = needs_from_ok (nat_lt 0 (length disk)) _ (λ _. mounted_in (content_of (sector_of disk)) (length disk)) m is
 
-as_mounted : (c : Content) (sectors : ℕ) (o : OpenedToWrite) (v : Volume) → opened_to_write_in c sectors ≡ Ok o → loaded_on (shadow_lsn o.state.log) o.place (content_behind c o) o.geometry o.total ≡ Ok v → mounted_in c sectors ≡ Ok (mounted_as c o v)
+pub as_mounted : (c : Content) (sectors : ℕ) (o : OpenedToWrite) (v : Volume) → opened_to_write_in c sectors ≡ Ok o → loaded_on (shadow_lsn o.state.log) o.place (content_behind c o) o.geometry o.total ≡ Ok v → mounted_in c sectors ≡ Ok (mounted_as c o v)
 unfolding mounted_in mounted_by
 as_mounted c sectors o v opened loaded = ap (λ (r : Result OpenedToWrite Refusal). r >>= mounted_by c) opened ∙ ap (λ (r : Result Volume Refusal). r >>= λ u. okay (mounted_as c o u)) loaded
   where
     okay : MountedVolume → Result MountedVolume Refusal
     okay x = Ok x
 
-on_sectors : (disk : List (List ℕ)) (sectors : ℕ) (m : MountedVolume) → length disk ≡ sectors → nat_lt 0 sectors ≡ true → mounted_in (content_of (sector_of disk)) sectors ≡ Ok m → mounted_of disk ≡ Ok m
+pub on_sectors : (disk : List (List ℕ)) (sectors : ℕ) (m : MountedVolume) → length disk ≡ sectors → nat_lt 0 sectors ≡ true → mounted_in (content_of (sector_of disk)) sectors ≡ Ok m → mounted_of disk ≡ Ok m
 unfolding mounted_of
 on_sectors disk sectors m long some is =
     ap (λ (n : ℕ). needs (nat_lt 0 n) (Short 1 0) >>= λ _. mounted_in (content_of (sector_of disk)) n) long

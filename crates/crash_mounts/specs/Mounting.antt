@@ -2,6 +2,7 @@
 use Rattle.std.specs.Prelude.{◌≡◌, ◌^◌, ◌≤◌, ℕ, List, length, Ok}
 use Rattle.disk_model.specs.Sectors.{sector_of}
 use Rattle.disk_model.specs.Content.{content_of}
+use Rattle.file_tree.specs.declared.tree.Tree.{Tree}
 use Rattle.volume_model.specs.Volumes.{Volume}
 use Rattle.mount_laws.specs.volume_state.Trees.{tree_of}
 use Rattle.log_model.specs.Logs.{recovered}
@@ -17,6 +18,12 @@ use Rattle.mount_laws.specs.volume_mount.Mounts.{MountedVolume, tree_in, mounted
 use Rattle.member_states.specs.Members.{VolumeBase, BearsFound, MemberIs}
 use Rattle.mount_laws.specs.volume_mount.Welcome.{IsWelcome}
 use Rattle.crash_mounts.specs.Clearing.{IsLogClear}
+
+-- an image mounts as this tree
+pub record MountsTree (image : List (List ℕ)) (tree : Tree) : Type 0 where
+  pub now : MountedVolume
+  pub mounts : mounted_of image ≡ Ok now
+  pub stands : tree_in now ≡ tree
 
 -- what the states of a volume stand on that was mounted from these sectors, with its log at this place
 abbrev pub base_behind : List (List ℕ) → MountedVolume → LogPlace → VolumeBase

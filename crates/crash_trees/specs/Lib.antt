@@ -1,3 +1,4 @@
+pub use Rattle.crash_mounts.specs as crash_mounts
 pub use Rattle.crash_mounts.specs.txn_mount
 pub use Rattle.resting_states.specs as resting_states
 pub use Rattle.resting_states.specs.found_stays

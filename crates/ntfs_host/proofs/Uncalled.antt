@@ -8,7 +8,8 @@ use Rattle.volume_format.proofs.Stopping.{keeps_all}
 use Rattle.ntfs_host.specs.declared.command.Quiet.TheVariants.{Scan, Dump, Check, Journal, Format}
 use Rattle.ntfs_host.specs.declared.command.Asked.{Asked}
 use Rattle.ntfs_host.specs.declared.command.Asked.TheVariants.{Quietly, Run, NoLine}
-use Rattle.ntfs_host.specs.Outcomes.{IsOnlyRead, Formats, LeavesBy, LeavesDevice}
+use Rattle.ntfs_host.specs.Runs.{IsOnlyRead}
+use Rattle.ntfs_host.specs.Outcomes.{Formats, LeavesBy, LeavesDevice}
 
 same : {D : Type 0} (gives : D → Option (List (List ℕ))) (changes_of : D → Changes) (d : D) → IsOnlyRead gives changes_of d d
 same gives changes_of d = record { same = refl; unchanged = refl }
@@ -33,7 +34,7 @@ by_asked (Quietly Dump) sector_count gives moment_of changes_of d over = same gi
 by_asked (Quietly Check) sector_count gives moment_of changes_of d over = same gives changes_of d
 by_asked (Quietly Journal) sector_count gives moment_of changes_of d over = same gives changes_of d
 by_asked (Quietly (Format seed time)) sector_count gives moment_of changes_of d over = unformatted seed time sector_count gives moment_of changes_of d over
-by_asked (Run time) sector_count gives moment_of changes_of d over = same gives changes_of d
+by_asked (Run time) sector_count gives moment_of changes_of d over = record { unread = λ e. same gives changes_of d; refused = λ e. absurd cc }
 by_asked NoLine sector_count gives moment_of changes_of d over = same gives changes_of d
 
 pub uncalled : {D : Type 0} (asked : Asked) (sector_count : D → ℕ) (gives : D → Option (List (List ℕ))) (moment_of : D → ℕ) (changes_of : D → Changes) (d : D)

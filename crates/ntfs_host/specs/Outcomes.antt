@@ -1,5 +1,5 @@
 -- What the top call promises: said of what was asked, of the status, and of the source, the sink and the device before and after.
-use Rattle.std.specs.Prelude.{◌≡◌, ◌≢◌, ◌<◌, ◌≤◌, ◌⊎◌, ⊤, ℕ, List, Option, Result, IfSome, IsSomeAnd, IsOk, IsErr, IsErrAnd}
+use Rattle.std.specs.Prelude.{◌≡◌, ◌≢◌, ◌<◌, ◌≤◌, ◌⊎◌, ⊤, ℕ, List, Option, Result, IfSome, IsSomeAnd, IsOk, IsErr}
 use Rattle.std.specs.Option.{option_map}
 use Rattle.std.specs.Io.KnownBytes.{Appends}
 use Rattle.host_base.specs.Causes.{Rose, HasFailed, AppendsPart, last_moment}
@@ -8,19 +8,16 @@ use Rattle.volume_format.specs.Layouts.{layout_of, device_writes}
 use Rattle.volume_format.specs.Images.{regions, formatted}
 use Rattle.volume_format.specs.Stopping.{PutsFront, KeepsOthers}
 use Rattle.volume_format.specs.Crashing.{IsSettledNow, KeepsLeft}
-use Rattle.tree_model.specs.declared.script.Command.{Command}
 use Rattle.script_text.specs.Scripts.{script_of}
 use Rattle.volume_run.specs.image_open.declared.refusal.Refusal.{Refusal}
-use Rattle.volume_run.specs.volume_mount.Mounts.{MountedVolume}
-use Rattle.volume_run.specs.Prints.{Counted, counted_by}
 use Rattle.ntfs_host.specs.declared.command.Quiet.TheVariants.{Scan, Dump, Check, Journal, Format}
 use Rattle.ntfs_host.specs.declared.command.Asked.{Asked}
 use Rattle.ntfs_host.specs.declared.command.Asked.TheVariants.{Quietly, Run, NoLine}
-use Rattle.ntfs_host.specs.Answers.{known_answer, known_mount, format_line}
-use Rattle.ntfs_host.specs.Runs.{PrintsRun, PrintsVolume, PrintsVolumePart, PrintsScript, PrintsScriptPart, IsRunStatus}
-use Rattle.ntfs_host.specs.Scripts.{script_line, IsAccepted, IsReadWhole, LosesAtMost}
+use Rattle.ntfs_host.specs.Answers.{known_answer, format_line}
+use Rattle.ntfs_host.specs.Runs.{IsOnlyRead, LeavesRefused, AnswersRun, MayRun}
+use Rattle.ntfs_host.specs.Scripts.{IsAccepted, IsReadWhole, LosesAtMost}
 use Rattle.ntfs_host.specs.Statuses.{IsQuietStatus}
-use Rattle.ntfs_host.specs.Text.{printed, refusal_line}
+use Rattle.ntfs_host.specs.Text.{printed}
 use Rattle.ntfs_host.specs.Words.{usage}
 
 -- ---- what the sink takes
@@ -40,46 +37,6 @@ pub record AnswersQuiet (status : ℕ) (answer : Option (Result (List ℕ) Refus
   -- where the device failed, nothing
   pub silent : status ≡ 8 → new ≡ old
 
--- What a script that is accepted is answered, on a volume that may be mounted or refused, where this is known: the text is that of a serial run
--- of the script from this time on.
-pub record AnswersScript (script : List Command) (time status : ℕ) (mounted : Option (Result MountedVolume Refusal)) (before : Counted) (now : ℕ) (old new : Option (List ℕ)) : Type 0 where
-  -- it is done, or the volume is refused, or memory is wanting, or the sink or the device failed
-  pub ends : IsQuietStatus status
-  -- done, the volume is mounted
-  pub mounts : status ≡ 0 → IfSome mounted IsOk
-  -- and the sink took the text of a run, which is one of that volume
-  pub told : status ≡ 0 → PrintsRun old new script time before now
-  pub done : status ≡ 0 → IfSome mounted (λ m. PrintsVolume old new m script time before now)
-  -- refused, the line of what refuses the volume
-  pub refused : status ≡ 3 → IfSome mounted (λ m. IsErrAnd m (λ refusal. Appends old new (refusal_line refusal)))
-  -- for want of memory nothing, or a front of the one or the other
-  pub memory : status ≡ 6 → (new ≡ old) ⊎ IfSome mounted (λ m. PrintsVolumePart old new m script time before now)
-  -- where it failed itself, a front
-  pub part : status ≡ 7 → IfSome mounted (λ m. PrintsVolumePart old new m script time before now)
-  -- where the device failed, nothing
-  pub silent : status ≡ 8 → new ≡ old
-
--- What a run answers, of a source that had this left, on a volume that may be mounted or refused, where these are known.
-pub record AnswersRun (time status : ℕ) (left : Option (List ℕ)) (mounted : Option (Result MountedVolume Refusal)) (before : Counted) (now : ℕ) (old new : Option (List ℕ)) : Type 0 where
-  -- it is done, or the volume or the script is refused, or the source failed, or memory is wanting, or the sink or the device failed
-  pub ends : IsRunStatus status
-  -- done, or with a volume that is refused, the source had a script
-  pub script : (status ≡ 0) ⊎ (status ≡ 3) → IfSome left (λ bytes. IsOk (script_of bytes))
-  -- done, the volume is mounted
-  pub mounts : status ≡ 0 → IfSome mounted IsOk
-  -- and the sink took the text of a serial run of the script from this time on
-  pub done : status ≡ 0 → IfSome left (λ bytes. PrintsScript old new mounted time before now (script_of bytes))
-  -- with a volume that is refused, the line of what refuses it
-  pub refused : status ≡ 3 → IfSome mounted (λ m. IsErrAnd m (λ refusal. Appends old new (refusal_line refusal)))
-  -- without a script, the line of what refuses it
-  pub no_script : status ≡ 4 → IfSome left (λ bytes. IsErrAnd (script_of bytes) (λ fault. Appends old new (script_line fault)))
-  -- for want of memory nothing, or a front of one of these
-  pub memory : status ≡ 6 → (new ≡ old) ⊎ IfSome left (λ bytes. PrintsScriptPart old new mounted time before now (script_of bytes))
-  -- where it failed itself, a front
-  pub part : status ≡ 7 → IfSome left (λ bytes. PrintsScriptPart old new mounted time before now (script_of bytes))
-  -- where the source or the device failed, nothing
-  pub silent : (status ≡ 5) ⊎ (status ≡ 8) → new ≡ old
-
 -- What words that are no line of a command are answered.
 pub record AnswersNoLine (status : ℕ) (old new : Option (List ℕ)) : Type 0 where
   -- they are refused, or memory is wanting, or the sink failed
@@ -91,13 +48,12 @@ pub record AnswersNoLine (status : ℕ) (old new : Option (List ℕ)) : Type 0 w
   -- where it failed itself, a front of that line
   pub part : status ≡ 7 → AppendsPart old new usage
 
--- What the sink took, by what was asked, of a source that had this left. What is known of an answer is a function of what reads of the device gave
--- before; what it had counted then and has now bounds what the text of a run may tell.
-abbrev pub Answers : {D K : Type 0} → Asked → ℕ → Option (List ℕ) → (D → ℕ) → (D → Option (List (List ℕ))) → (D → ℕ) → (D → ℕ) → D → D → (K → Option (List ℕ)) → K → K → Type 0
-Answers (Quietly command) status left sector_count gives fault_count moment_of device device_now taken sink sink_now = AnswersQuiet status (known_answer command (sector_count device) (gives device)) (taken sink) (taken sink_now)
-Answers (Run time) status left sector_count gives fault_count moment_of device device_now taken sink sink_now =
-    AnswersRun time status left (known_mount (sector_count device) (gives device)) (counted_by fault_count moment_of device) (fault_count device_now) (taken sink) (taken sink_now)
-Answers NoLine status left sector_count gives fault_count moment_of device device_now taken sink sink_now = AnswersNoLine status (taken sink) (taken sink_now)
+-- What the sink took, by what was asked, of a source that had this left. What is known of an answer is a function of what reads of the device gave before; of a run it is told with what became of the device.
+abbrev pub Answers : {D K : Type 0} → Asked → ℕ → Option (List ℕ) → (D → ℕ) → (D → Option (List (List ℕ))) → (D → ℕ) → (D → ℕ) → (D → Changes) → D → D → (K → Option (List ℕ)) → K → K → Type 0
+Answers (Quietly command) status left sector_count gives fault_count moment_of changes_of device device_now taken sink sink_now = AnswersQuiet status (known_answer command (sector_count device) (gives device)) (taken sink) (taken sink_now)
+Answers (Run time) status left sector_count gives fault_count moment_of changes_of device device_now taken sink sink_now =
+    AnswersRun gives sector_count moment_of fault_count changes_of time status left device device_now (taken sink) (taken sink_now)
+Answers NoLine status left sector_count gives fault_count moment_of changes_of device device_now taken sink sink_now = AnswersNoLine status (taken sink) (taken sink_now)
 
 -- ---- the causes of faults
 
@@ -119,12 +75,12 @@ pub record HasDeviceCauses {D : Type 0} (status : ℕ) (fault_count moment_of : 
 
 -- The same of a run, whose commands may fail by the device and go on: where it is done, its text tells of them.
 pub record HasRunCauses {D : Type 0} (status : ℕ) (fault_count moment_of : D → ℕ) (old new : D) : Type 0 where
-  -- they rose in the mount where the status says that the device failed
+  -- they rose in the mount or in the closing flush where the status says that the device failed
   pub failed : status ≡ 8 → HasFailed (fault_count old) (fault_count new) (moment_of new)
   -- and not where the volume or the script is refused, or the source failed
   pub counted : moment_of old < last_moment → (status ≡ 3) ⊎ (status ≡ 4) ⊎ (status ≡ 5) → fault_count new ≡ fault_count old
-  -- they never fall
-  pub later : fault_count old ≤ fault_count new
+  -- they don't fall, before its last moment
+  pub later : moment_of new < last_moment → fault_count old ≤ fault_count new
 
 -- by what was asked
 abbrev pub HasCausesBy : {D : Type 0} → Asked → ℕ → (D → ℕ) → (D → ℕ) → D → D → Type 0
@@ -157,13 +113,6 @@ KeepsOrder NoLine status left source source_now sink sink_now device device_now 
 
 -- ---- what is left on the device
 
--- A device that was only read.
-pub record IsOnlyRead {D : Type 0} (gives : D → Option (List (List ℕ))) (changes_of : D → Changes) (old new : D) : Type 0 where
-  -- reads give what they gave
-  pub same : gives new ≡ gives old
-  -- no write and no sync was begun, so that a crash leaves exactly what it might have left before, now and since any moment
-  pub unchanged : changes_of new ≡ changes_of old
-
 -- A device on which a new volume was made, with this serial number, whose files have this time.
 pub record IsFormatted {D : Type 0} (seed time : ℕ) (sector_count : D → ℕ) (gives : D → Option (List (List ℕ))) (changes_of : D → Changes) (old new : D) : Type 0 where
   -- reads give the new volume, with the sectors that aren't its own as they were
@@ -192,14 +141,19 @@ pub record Formats {D : Type 0} (seed time status : ℕ) (sector_count : D → �
   -- and a crash during it or after it leaves there only what it might have left before
   pub rest_left : KeepsLeft (layout_of (sector_count old)) (sector_count old) (moment_of old) (changes_of old) (changes_of new)
 
--- A format leaves that; every other command, a run, and words that are no line only read.
+-- A run without a script hasn't called the device, and one that is refused has written nothing; what it leaves else stands with what it answers.
+pub record LeavesRun {D : Type 0} (status : ℕ) (gives : D → Option (List (List ℕ))) (changes_of : D → Changes) (old new : D) : Type 0 where
+  pub unread : (status ≡ 4) ⊎ (status ≡ 5) → IsOnlyRead gives changes_of old new
+  pub refused : status ≡ 3 → LeavesRefused gives changes_of old new
+
+-- A format leaves that, and a run this; every other command, and words that are no line, only read.
 abbrev pub LeavesBy : {D : Type 0} → Asked → ℕ → (D → ℕ) → (D → Option (List (List ℕ))) → (D → ℕ) → (D → Changes) → D → D → Type 0
 LeavesBy (Quietly Scan) status sector_count gives moment_of changes_of old new = IsOnlyRead gives changes_of old new
 LeavesBy (Quietly Dump) status sector_count gives moment_of changes_of old new = IsOnlyRead gives changes_of old new
 LeavesBy (Quietly Check) status sector_count gives moment_of changes_of old new = IsOnlyRead gives changes_of old new
 LeavesBy (Quietly Journal) status sector_count gives moment_of changes_of old new = IsOnlyRead gives changes_of old new
 LeavesBy (Quietly (Format seed time)) status sector_count gives moment_of changes_of old new = Formats seed time status sector_count gives moment_of changes_of old new
-LeavesBy (Run time) status sector_count gives moment_of changes_of old new = IsOnlyRead gives changes_of old new
+LeavesBy (Run time) status sector_count gives moment_of changes_of old new = LeavesRun status gives changes_of old new
 LeavesBy NoLine status sector_count gives moment_of changes_of old new = IsOnlyRead gives changes_of old new
 
 -- What is left on the device, by what was asked and by the status.
@@ -214,5 +168,5 @@ pub record LeavesDevice {D : Type 0} (asked : Asked) (status : ℕ) (sector_coun
 -- Where nothing refuses it, a command is done, or memory is wanting, or what failed is counted by its status.
 abbrev pub IsWhole : {D : Type 0} → Asked → ℕ → Option (List ℕ) → (D → ℕ) → (D → Option (List (List ℕ))) → D → Type 0
 IsWhole (Quietly command) status left sector_count gives device = IsSomeAnd (known_answer command (sector_count device) (gives device)) IsOk → (status ≡ 0) ⊎ (status ≡ 6) ⊎ (status ≡ 7) ⊎ (status ≡ 8)
-IsWhole (Run time) status left sector_count gives device = IsSomeAnd left (λ bytes. IsOk (script_of bytes)) → IsSomeAnd (known_mount (sector_count device) (gives device)) IsOk → (status ≡ 0) ⊎ (status ≡ 5) ⊎ (status ≡ 6) ⊎ (status ≡ 7) ⊎ (status ≡ 8)
+IsWhole (Run time) status left sector_count gives device = IsSomeAnd left (λ bytes. MayRun (sector_count device) (gives device) (script_of bytes)) → (status ≡ 0) ⊎ (status ≡ 5) ⊎ (status ≡ 6) ⊎ (status ≡ 7) ⊎ (status ≡ 8)
 IsWhole NoLine status left sector_count gives device = ⊤

@@ -7,7 +7,8 @@ ghost use Rattle.image_dump.specs.Texts.{scan_text, dump_text, check_text, journ
 ghost use Rattle.ntfs_host.specs.declared.command.Quiet.TheVariants.{Scan as the_scan, Dump as the_dump, Check as the_check, Journal as the_journal};
 ghost use Rattle.ntfs_host.specs.declared.command.Asked.TheVariants.{Quietly};
 ghost use Rattle.ntfs_host.specs.Answers.{format_refusal, error_of_format, format_line, known_answer, answer_status};
-ghost use Rattle.ntfs_host.specs.Outcomes.{HasDeviceCauses, IsOnlyRead, Formats, LeavesDevice};
+ghost use Rattle.ntfs_host.specs.Outcomes.{HasDeviceCauses, Formats, LeavesDevice};
+ghost use Rattle.ntfs_host.specs.Runs.{IsOnlyRead};
 
 use crate::command::Quiet;
 use crate::text::formatted_line;

@@ -1,9 +1,9 @@
 //! The top call.
-ghost use Rattle.std.specs.Prelude.{◌≡◌, ◌⊎◌, None, IfOk};
+ghost use Rattle.std.specs.Prelude.{◌≡◌, ◌⊎◌, ℕ, ◌^◌, ◌<◌, None, IfOk};
 ghost use Rattle.std.specs.Io.KnownBytes.{Appends};
 ghost use Rattle.host_base.specs.Causes.{AppendsPart};
 ghost use Rattle.ntfs_host.specs.declared.command.Asked.{Asked as the_asked};
-ghost use Rattle.ntfs_host.specs.declared.command.Asked.TheVariants.{Quietly};
+ghost use Rattle.ntfs_host.specs.declared.command.Asked.TheVariants.{Quietly, Run};
 ghost use Rattle.ntfs_host.specs.Answers.{known_answer};
 ghost use Rattle.ntfs_host.specs.Outcomes.{AnswersQuiet, AnswersNoLine, Answers, HasCauses, HasDeviceCauses, HasCausesBy, KeepsOrder, LeavesDevice, IsWhole};
 ghost use Rattle.ntfs_host.specs.Words.{asked_by, asked_in};
@@ -162,7 +162,8 @@ fn asked_by(command: &Option<Command>) -> Asked
 
 // What the words ask for. The error is want of memory.
 fn asked_in(alloc: Global, words: &[String]) -> Result<Asked, AllocError>
-    ensures { IfOk result (λ asked. asked ≡ asked_in words.now) }
+    ensures asked { IfOk result (λ asked. asked ≡ asked_in words.now) }
+    ensures early { IfOk result (λ asked. (time : ℕ) → asked ≡ Run time → time < 2 ^ 62) }
 {
     match read_line(alloc, words) {
         Ok(command) => Ok(asked_by(&Some(command))),
@@ -191,7 +192,8 @@ fn do_asked<R: Threads + Wait + Sync, S: Source, K: Sink, D: Device + Send, G: G
     device: D,
     gate: &G,
 ) -> Outcome<D>
-    ensures answers { Answers asked result.status (S.left source.old) D.sector_count D.gives D.fault_count D.moment_of device result.device K.taken sink.old sink.new }
+    requires early { (time : ℕ) → asked ≡ Run time → time < 2 ^ 62 }
+    ensures answers { Answers asked result.status (S.left source.old) D.sector_count D.gives D.fault_count D.moment_of D.changes_of device result.device K.taken sink.old sink.new }
     ensures source_causes { HasCauses 5 result.status (S.faults source.old) (S.faults source.new) }
     ensures sink_causes { HasCauses 7 result.status (K.faults sink.old) (K.faults sink.new) }
     ensures device_causes { HasCausesBy asked result.status D.fault_count D.moment_of device result.device }
@@ -199,13 +201,14 @@ fn do_asked<R: Threads + Wait + Sync, S: Source, K: Sink, D: Device + Send, G: G
     ensures leaves { LeavesDevice asked result.status D.sector_count D.gives D.moment_of D.changes_of device result.device }
     ensures whole { IsWhole asked result.status (S.left source.old) D.sector_count D.gives device }
 {
-    let mut device = device;
-    let status = match asked {
-        Asked::Quietly(quiet) => return quiet_command(alloc, &quiet, sink, device),
-        Asked::Run { time } => run_command(rt, alloc, time, source, sink, &mut device, gate),
-        Asked::NoLine => write_usage(sink),
-    };
-    Outcome { status, device }
+    match asked {
+        Asked::Quietly(quiet) => quiet_command(alloc, &quiet, sink, device),
+        Asked::Run { time } => run_command(rt, alloc, time, source, sink, device, gate),
+        Asked::NoLine => Outcome {
+            status: write_usage(sink),
+            device,
+        },
+    }
 }
 
 /// Does the command that the words name, on the volume image of the device; its text, or the line
@@ -217,18 +220,21 @@ fn do_asked<R: Threads + Wait + Sync, S: Source, K: Sink, D: Device + Send, G: G
 /// no commands yet. `gate.pass` is called before each command of a script. The status is that of
 /// `Outcome`.
 ///
-/// A run mounts the volume and asks its own indexes. It takes volumes with eight sectors a cluster:
-/// other sectors a cluster are refused by the boot sector's field at 13, in this field's place. It
-/// refuses what a check refuses, and between the version and the rules a volume with a change
-/// journal, and one whose log is small; a log of another program that asks for what no mount may
-/// write is refused with the log. It reads what a check reads, once more the first sector, and the
-/// table of upper-case units, by which names are in order; a command reads the index blocks on its
-/// path, and the sectors of the bytes that it asks for.
+/// A run mounts the volume, lets the script's commands change it, and closes it; where they only look
+/// the device is only read. It takes volumes
+/// with eight sectors a cluster: other sectors a cluster are refused by the boot sector's field at 13,
+/// in this field's place. It refuses what a check refuses, and between the version and the rules a
+/// volume with a change journal, and one whose log is small; a log of another program that asks for
+/// what no mount may write is refused with the log; and at the end a volume that can't be changed yet
+/// (`refused 17 Unbuilt 8` and `9`). It reads what a check reads, once more the first sector and the
+/// log, and the table of upper-case units, by which names are in order; it writes out what the log
+/// recovers; a command reads the index blocks on its path, and the sectors of the bytes that it asks
+/// for, and what it changes is logged, and written out by the end.
 ///
-/// Its clauses, whose words stand in `specs/Outcomes.antt`, go by what the words ask for. They say
-/// what the sink took, that faults have their causes, that a run reads its whole script before it
-/// calls the device or the sink, what is left on the device, and that a command that nothing refuses
-/// is done.
+/// Its clauses, whose words stand in `specs/Outcomes.antt` and, for a run, in `specs/Runs.antt`, go by
+/// what the words ask for. They say what the sink took, and of a run also what a crash leaves; that
+/// faults have their causes, that a run reads its whole script before it calls the device or the sink,
+/// what is left on the device, and that a command that nothing refuses is done.
 pub fn ntfs_host<R: Threads + Wait + Sync, S: Source, K: Sink, D: Device + Send, G: Gate + Sync>(
     rt: &R,
     alloc: Global,
@@ -238,7 +244,7 @@ pub fn ntfs_host<R: Threads + Wait + Sync, S: Source, K: Sink, D: Device + Send,
     device: D,
     gate: &G,
 ) -> Outcome<D>
-    ensures answers { Answers (asked_in words.now) result.status (S.left source.old) D.sector_count D.gives D.fault_count D.moment_of device result.device K.taken sink.old sink.new }
+    ensures answers { Answers (asked_in words.now) result.status (S.left source.old) D.sector_count D.gives D.fault_count D.moment_of D.changes_of device result.device K.taken sink.old sink.new }
     ensures source_causes { HasCauses 5 result.status (S.faults source.old) (S.faults source.new) }
     ensures sink_causes { HasCauses 7 result.status (K.faults sink.old) (K.faults sink.new) }
     ensures device_causes { HasCausesBy (asked_in words.now) result.status D.fault_count D.moment_of device result.device }

@@ -1,3 +1,4 @@
 pub mod Parts
+pub mod Spelled
 pub mod Words
 pub mod LineSteps

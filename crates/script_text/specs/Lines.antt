@@ -4,10 +4,10 @@ use Rattle.std.specs.List.{slice_split, list_any}
 use Rattle.std.specs.Str.{is_utf8}
 use Rattle.host_base.specs.Numbers.{number_of}
 use Rattle.tree_model.specs.declared.script.What.{What}
-use Rattle.tree_model.specs.Steps.{OnlyLooks}
 use Rattle.script_text.specs.declared.fault.ScriptFault.{ScriptFault}
 use Rattle.script_text.specs.declared.fault.ScriptFault.TheVariants.{Line, TooManyClients}
 use Rattle.script_text.specs.declared.line.Request.{Request}
+use Rattle.script_text.specs.Asking.{IsAsked}
 use Rattle.script_text.specs.Commands.{what_of}
 
 -- the clients of a script are 1 to this one, so far
@@ -27,9 +27,9 @@ abbrev pub client_in : Option ℕ → Option ℕ
 client_in None = None
 client_in (Some client) = if client == 0 then None else Some client
 
--- the client of a request is one of those that a script may have, and it only looks
+-- the client of a request is one of those that a script may have, and it asks for what one may ask for
 abbrev pub IsWithin : Request → Type 0
-IsWithin request = (0 < request.client) × (request.client ≤ most_clients) × OnlyLooks request.what
+IsWithin request = (0 < request.client) × (request.client ≤ most_clients) × IsAsked request.what
 
 -- what a client asks for at this line, or the rule that it breaks
 abbrev pub asked : ℕ → ℕ → Result What ℕ → Result (Option Request) ScriptFault

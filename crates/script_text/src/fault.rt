@@ -13,7 +13,7 @@ pub enum ScriptFault {
     TooLarge,
     /// The line of this number, from 1 on, breaks this rule: 1 it has no LF, 2 it isn't UTF-8, 3 an
     /// empty word, 4 the client is no number or 0, 5 unknown command, 6 number of words, 7 path,
-    /// 8 number, 9 count.
+    /// 8 number, 9 count or bytes.
     #[error("line {number} breaks rule {rule}")]
     Line { number: u64, rule: u8 },
     /// A line's client is above the bound.

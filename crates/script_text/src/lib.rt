@@ -5,12 +5,14 @@
 //! Linux-NTFS documentation, "Attribute - $FILE_NAME".
 #![tactic(auto)]
 
+mod change;
 mod command;
 mod fault;
 mod line;
 mod path;
 mod pieces;
 mod reading;
+mod word;
 
 pub use fault::ScriptFault;
 pub use reading::ScriptText;

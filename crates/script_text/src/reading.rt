@@ -1,7 +1,7 @@
 ghost use Rattle.std.specs.Prelude.{◌≡◌, ℕ, List, Result, ◌==◌, ◌<◌, ◌≤◌, [], ◌∷◌, length, position, IfErr, IfOk, OnOk, MatchOption};
 ghost use Rattle.std.specs.List.{slice_split};
 ghost use Rattle.host_base.specs.Answers.{Gives, Explains};
-ghost use Rattle.tree_model.specs.Steps.{AllLook};
+ghost use Rattle.script_text.specs.Asking.{AllAsked};
 ghost use Rattle.script_text.specs.declared.fault.ScriptFault.{ScriptFault};
 ghost use Rattle.script_text.specs.Faults.{script_cause};
 ghost use Rattle.script_text.specs.Lines.{IsWithin};
@@ -24,10 +24,12 @@ fn add(commands: &mut Script, counts: &mut [u32], request: Request) -> Result<()
     requires clients { length counts.old ≡ CLIENTS }
     requires client { IsWithin request }
     requires counts { AreCounts counts.old commands.old }
-    requires looks { AllLook commands.old }
+    requires asked { AllAsked commands.old }
+    requires few { length commands.old ≤ COMMANDS }
     ensures ok { OnOk result (with_request commands.old (Some request) ≡ Ok commands.new) }
     ensures counts { OnOk result (AreCounts counts.new commands.new) }
-    ensures looks { OnOk result (AllLook commands.new) }
+    ensures asked { OnOk result (AllAsked commands.new) }
+    ensures few { OnOk result (length commands.new ≤ COMMANDS) }
     ensures err { IfErr result (λ e. Explains (script_cause e) (with_request commands.old (Some request))) }
 {
     if commands.as_slice().len() >= COMMANDS {
@@ -56,10 +58,12 @@ fn add_line(
 ) -> Result<(), ScriptFault>
     requires clients { length counts.old ≡ CLIENTS }
     requires counts { AreCounts counts.old commands.old }
-    requires looks { AllLook commands.old }
+    requires asked { AllAsked commands.old }
+    requires few { length commands.old ≤ COMMANDS }
     ensures ok { OnOk result (with_line number commands.old line.now ≡ Ok commands.new) }
     ensures counts { OnOk result (AreCounts counts.new commands.new) }
-    ensures looks { OnOk result (AllLook commands.new) }
+    ensures asked { OnOk result (AllAsked commands.new) }
+    ensures few { OnOk result (length commands.new ≤ COMMANDS) }
     ensures err { IfErr result (λ e. Explains (script_cause e) (with_line number commands.old line.now)) }
 {
     match read_line(alloc, number, line)? {
@@ -92,7 +96,8 @@ fn first_line(bytes: &[u8]) -> Option<(&[u8], &[u8])>
 fn commands_in(alloc: Global, bytes: &[u8]) -> Result<Script, ScriptFault>
     requires { length bytes.now ≤ LARGEST }
     ensures value { Gives (λ script. script) script_cause result (commands_in bytes.now) }
-    ensures looks { IfOk result AllLook }
+    ensures asked { IfOk result AllAsked }
+    ensures few { IfOk result (λ script. length script ≤ COMMANDS) }
 {
     let mut commands = Script::new(alloc);
     let mut counts = [0u32; CLIENTS];
@@ -114,26 +119,33 @@ pub trait ScriptText: Sized {
     /// The script that bytes spell, or what refuses them.
     ghost script_of: { List ℕ → Result Self ScriptFault };
 
-    /// Its commands only look: none of them changes a volume.
-    ghost AllLook: { Self → Type 0 };
+    /// Its commands ask for operations that a script may ask for so far, each within its bounds.
+    ghost AllAsked: { Self → Type 0 };
+
+    /// It has 16,384 commands at most.
+    ghost IsShort: { Self → Type 0 };
 
     /// Reads a script: its commands, numbered from 1 for each client. `TooLarge` comes where there
     /// are more than 16,777,216 bytes; else the first line at fault says `Line` with its number and
     /// the first rule that it breaks, `TooManyClients`, which is tried between the rules 4 and 5,
     /// or `TooManyCommands` at a command behind the 16,384th. The last error is want of memory. It
-    /// takes time and memory linear in the bytes. Its commands only look.
+    /// takes time and memory linear in the bytes. Its commands look, write, fill, cut or sync,
+    /// within their bounds.
     fn read(alloc: Global, bytes: &[u8]) -> Result<Self, ScriptFault>
         ensures value { Gives (λ script. script) script_cause result (script_of bytes.now) }
-        ensures looks { IfOk result (λ script. AllLook script) };
+        ensures asked { IfOk result (λ script. AllAsked script) }
+        ensures few { IfOk result (λ script. IsShort script) };
 }
 
 impl ScriptText for Script {
     ghost use Rattle.script_text.specs.Scripts.{script_of};
-    ghost use Rattle.tree_model.specs.Steps.{AllLook};
+    ghost use Rattle.script_text.specs.Asking.{AllAsked, IsShort};
 
     ghost script_of = { script_of };
 
-    ghost AllLook = { AllLook };
+    ghost AllAsked = { AllAsked };
+
+    ghost IsShort = { IsShort };
 
     fn read(alloc: Global, bytes: &[u8]) -> Result<Script, ScriptFault> {
         if bytes.len() > LARGEST {

@@ -12,7 +12,7 @@ fn fault_of(alloc: Global, bytes: &[u8]) -> Option<ScriptFault> {
 }
 
 // What refuses a script of one line and its LF.
-fn fault_of_line(alloc: Global, line: &[u8]) -> Result<Option<ScriptFault>, Fail> {
+pub fn fault_of_line(alloc: Global, line: &[u8]) -> Result<Option<ScriptFault>, Fail> {
     let mut bytes = Vec::from_slice(alloc, line)?;
     bytes.push(10)?;
     Ok(fault_of(alloc, bytes.as_slice()))
@@ -29,7 +29,8 @@ static WANTED: [Wanted; 4] = [
     Wanted(false, &[&[0x71]]),
 ];
 
-fn has_parts(path: &Path, parts: &[&[u16]]) -> bool {
+// Whether a path has these parts.
+pub fn has_parts(path: &Path, parts: &[&[u16]]) -> bool {
     for (i, name) in path.as_slice().iter().enumerate() {
         let Some(want) = parts.get(i) else {
             return false;

@@ -14,7 +14,7 @@ use Rattle.found_stays.proofs.txn_laws.Telling.{window_ends}
 use Rattle.found_stays.specs.txn_core.Seen.{Seen, TakesStepAs}
 use Rattle.found_stays.specs.Found.{AreOffLog, StaysOver}
 use Rattle.found_stays.proofs.Bearing.{none_stays, both_stay}
-use Rattle.txn_close.specs.Passing.{IsSpared, Spares, LeavesWithin, LeavesFound, PassesAs, Fewer, GoesAs}
+use Rattle.txn_close.specs.Passing.{IsSpared, Spares, LeavesWithin, LeavesFound, BeginsNoPage, PassesAs, Fewer, GoesAs}
 
 -- ---- windows
 
@@ -50,6 +50,14 @@ spared_on f g fewer b spared = record {
   alone = λ c rival. not_now (f.mark c).dirty (g.mark c).dirty (fewer.dirty c) (spared.alone c rival);
 }
 
+-- ---- pages of the log
+
+pub none_begun : (f : StoreFacts) → BeginsNoPage f f
+none_begun f = record { pages = refl; lap = refl; begun = refl }
+
+pub begun_joined : (f g h : StoreFacts) → BeginsNoPage f g → BeginsNoPage g h → BeginsNoPage f h
+begun_joined f g h one two = record { pages = two.pages ∙ one.pages; lap = two.lap ∙ one.lap; begun = two.begun ∙ one.begun }
+
 -- ---- passes
 
 pub here : (f g : StoreFacts) (w : StoreWindow) (image : SectorBytes) → g.place ≡ f.place → g.found ≡ f.found → RecoversWithin g.place (own_of g) w image → RecoversWithin f.place (own_of f) w image
@@ -57,16 +65,17 @@ here f g w image place found x =
     subst (λ (bs : List Block). RecoversWithin f.place (is_own f.place bs) w image) found (subst (λ (p : LogPlace). RecoversWithin p (is_own p g.found) w image) place x)
 
 pub passes_none : {ends : Bool} (base : StoreFacts) (count moment : ℕ) (c : Changes) (f : StoreFacts) → PassesAs ends ends base count moment c c f f
-passes_none base count moment c f = record { known = λ e is. (e, is); place = refl; found = refl; steps = λ w has. (w, has, spares_same base w, λ t image le left. inl left); rises = omega arith; laps = λ w has t image le left. inl left; stays = λ w first has off. none_stays count f.found first c c refl }
+passes_none base count moment c f = record { known = λ e is. (e, is); place = refl; found = refl; steps = λ w has. (w, has, spares_same base w, λ t image le left. inl left); rises = omega arith; begins_none = none_begun f; laps = λ w has t image le left. inl left; stays = λ w first has off. none_stays count f.found first c c refl }
 
 pub passes_step : {ends : Bool} (base : StoreFacts) (count moment : ℕ) (old now : Changes) (f g : StoreFacts) (After : StoreWindow → StoreWindow → Type 0) → ((w v : StoreWindow) → After w v → Spares base w v)
-    → lap_behind f ≤ lap_behind g → LeavesFound ends count old now f → SimulatesAs ends count moment old now f g After → PassesAs ends ends base count moment old now f g
-passes_step base count moment old now f g After spares rises stays s = record {
+    → lap_behind f ≤ lap_behind g → BeginsNoPage f g → LeavesFound ends count old now f → SimulatesAs ends count moment old now f g After → PassesAs ends ends base count moment old now f g
+passes_step base count moment old now f g After spares rises begins stays s = record {
   known = s.known;
   place = s.place;
   found = s.found;
   steps = λ w has. let x = s.steps w has in (x.0, x.1, spares w x.0 x.2, λ t image le left. by w x.0 image t (spares w x.0 x.2) (x.3 t image le left));
   rises = rises;
+  begins_none = begins;
   laps = s.laps;
   stays = stays;
 }
@@ -103,6 +112,7 @@ passes_joined base next count early late old mid now f g h later spared one two 
       let y = two.steps x.0 x.1 in
       (y.0, y.1, spares_joined base w x.0 y.0 x.2 (wider base next x.0 y.0 spared y.2), λ t image le left. by w x.0 t image le x.2 x.3 y.3 left);
   rises = (let a = one.rises in let b = two.rises in omega (arith, a, b));
+  begins_none = begun_joined f g h one.begins_none two.begins_none;
   laps = λ w has. let x = one.steps w has in laps_joined count early late old mid now f g h later one.place one.rises two.rises (one.laps w has) (two.laps x.0 x.1);
   stays = λ w first has off. let x = one.steps w has in both_stay count f.found first old mid now (one.stays w first has off) (found_here f g count first mid now one.place one.found (two.stays x.0 first x.1) off);
 }
@@ -123,6 +133,7 @@ passes_to_end base count moment old now f g passes = record {
   found = passes.found;
   steps = λ w has. let x = passes.steps w has in (x.0, window_ends now g x.0 x.1, x.2, x.3);
   rises = passes.rises;
+  begins_none = passes.begins_none;
   laps = passes.laps;
   stays = passes.stays;
 }
@@ -134,6 +145,7 @@ passes_from base count moment old now f g passes = record {
   found = passes.found;
   steps = λ w has. passes.steps w (window_ends old f w has);
   rises = passes.rises;
+  begins_none = passes.begins_none;
   laps = λ w has. passes.laps w (window_ends old f w has);
   stays = λ w first has. passes.stays w first (window_ends old f w has);
 }
@@ -145,13 +157,13 @@ goes_none count moment changes base s fewer =
     record { later = omega arith; sectors = refl; fewer = fewer; passes = passes_none base (count s.device) (moment s.device) (changes s.device) (facts_of s.state) }
 
 pub goes_step : {ends : Bool} {D : Type 0} (count moment : D → ℕ) (changes : D → Changes) (base : StoreFacts) (After : StoreWindow → StoreWindow → Type 0) (old new : Seen D) → moment old.device ≤ moment new.device → count new.device ≡ count old.device
-    → Fewer base (facts_of new.state) → ((w v : StoreWindow) → After w v → Spares base w v) → lap_behind (facts_of old.state) ≤ lap_behind (facts_of new.state) → LeavesFound ends (count old.device) (changes old.device) (changes new.device) (facts_of old.state) → TakesStepAs ends count moment changes After old new
+    → Fewer base (facts_of new.state) → ((w v : StoreWindow) → After w v → Spares base w v) → lap_behind (facts_of old.state) ≤ lap_behind (facts_of new.state) → BeginsNoPage (facts_of old.state) (facts_of new.state) → LeavesFound ends (count old.device) (changes old.device) (changes new.device) (facts_of old.state) → TakesStepAs ends count moment changes After old new
     → GoesAs ends ends count moment changes base old new
-goes_step count moment changes base After old new later sectors fewer spares rises stays step = record {
+goes_step count moment changes base After old new later sectors fewer spares rises begins stays step = record {
   later = later;
   sectors = sectors;
   fewer = fewer;
-  passes = passes_step base (count old.device) (moment old.device) (changes old.device) (changes new.device) (facts_of old.state) (facts_of new.state) After spares rises stays step;
+  passes = passes_step base (count old.device) (moment old.device) (changes old.device) (changes new.device) (facts_of old.state) (facts_of new.state) After spares rises begins stays step;
 }
 
 pub goes_joined : {ends mid_ends last : Bool} {D : Type 0} (count moment : D → ℕ) (changes : D → Changes) (base : StoreFacts) (old mid new : Seen D) → GoesAs ends mid_ends count moment changes base old mid → GoesAs mid_ends last count moment changes (facts_of mid.state) mid new

@@ -32,7 +32,8 @@ use Rattle.found_stays.specs.txn_state.States.{facts_of}
 use Rattle.found_stays.specs.txn_laws.Windows.{AfterGiveUp}
 use Rattle.found_stays.specs.txn_core.Seen.{Seen, TakesStepAs, TakesStep}
 use Rattle.found_stays.specs.txn_core.Turns.{restart_facts, SendsRestartPage}
-use Rattle.txn_close.specs.Passing.{IsSpared, Spares, Fewer, GoesAs, Goes}
+use Rattle.found_stays.proofs.txn_core.AfterCalls.{out_log}
+use Rattle.txn_close.specs.Passing.{IsSpared, Spares, BeginsNoPage, Fewer, GoesAs, Goes}
 use Rattle.found_stays.proofs.Bearing.{none_stays}
 use Rattle.found_stays.proofs.Writing.{sync_stays}
 use Rattle.found_stays.proofs.Turning.{restart_stays, turn_stays, window_machine}
@@ -188,6 +189,55 @@ rises_turned (WriteOut b) result f g turned = rises_at f g _ turned.1 (rises_out
 rises_turned BeginCheckpoint result f g turned = rises_at f g _ turned.1 (seal_rises f.log)
 rises_turned WriteRestart result f g turned = rises_at f g _ turned (rises_restarted result g.log.sent f)
 
+-- ---- pages of the log
+
+-- the pages end before this one, where this is the log
+abbrev end_of : LogAreaOf → ℕ
+end_of a = a.sealed + cond (is_filling a) 1 0
+
+sealing_ends : (t : Bool) (a : LogAreaOf) → is_filling a ≡ t → end_of (cond t (record a { free = 0x40; sealed = a.sealed + 1 }) a) ≡ end_of a
+sealing_ends true a is = (let one = ap (λ (u : Bool). cond {A = ℕ} u 1 0) is in omega (arith, one))
+sealing_ends false a is = refl
+
+sealing_keeps : {A : Type 0} (field : LogAreaOf → A) (t : Bool) (a b : LogAreaOf) → field b ≡ field a → field (cond t b a) ≡ field a
+sealing_keeps field true a b same = same
+sealing_keeps field false a b same = refl
+
+begins_at : (f g h : StoreFacts) → g ≡ h → BeginsNoPage f h → BeginsNoPage f g
+begins_at f g h is begins = subst (λ (x : StoreFacts). BeginsNoPage f x) (sym is) begins
+
+-- the page that is filled is sealed, if it has an entry
+pub seal_begins : (f g h : StoreFacts) → g ≡ h → h.log ≡ sealed_area f.log → BeginsNoPage f g
+seal_begins f g h is log =
+    begins_at f g h is
+    (record {
+      pages = ap (λ (a : LogAreaOf). a.pages) log ∙ sealing_keeps (λ (a : LogAreaOf). a.pages) (is_filling f.log) f.log (record f.log { free = 0x40; sealed = f.log.sealed + 1 }) refl;
+      lap = ap (λ (a : LogAreaOf). a.lap) log ∙ sealing_keeps (λ (a : LogAreaOf). a.lap) (is_filling f.log) f.log (record f.log { free = 0x40; sealed = f.log.sealed + 1 }) refl;
+      begun = ap end_of log ∙ sealing_ends (is_filling f.log) f.log refl;
+    })
+
+-- the log stays
+pub same_begins : (f g h : StoreFacts) → g ≡ h → h.log ≡ f.log → BeginsNoPage f g
+same_begins f g h is log = begins_at f g h is (record { pages = ap (λ (a : LogAreaOf). a.pages) log; lap = ap (λ (a : LogAreaOf). a.lap) log; begun = ap end_of log })
+
+begins_synced : (result : Result (Unit {0}) Failed) (f : StoreFacts) → BeginsNoPage f (sync_facts result f)
+begins_synced (Ok tt) f = record { pages = refl; lap = refl; begun = refl }
+begins_synced (Err e) f = record { pages = refl; lap = refl; begun = refl }
+
+begins_restarted : (result : Result (Unit {0}) Failed) (sent : Option SentRestart) (f : StoreFacts) → BeginsNoPage f (restart_facts result sent f)
+begins_restarted (Ok tt) sent f = record { pages = refl; lap = refl; begun = refl }
+begins_restarted (Err e) sent f = record { pages = refl; lap = refl; begun = refl }
+
+-- a step begins no page
+pub begins_turned : (step : StoreStep) (result : Result (Unit {0}) Failed) (f g : StoreFacts) → HasTurned step result f g → BeginsNoPage f g
+begins_turned SealPage result f g turned = seal_begins f g _ turned.1 refl
+begins_turned WritePage (Ok tt) f g turned = begins_at f g _ turned (record { pages = refl; lap = refl; begun = refl })
+begins_turned WritePage (Err e) f g turned = begins_at f g _ turned (record { pages = refl; lap = refl; begun = refl })
+begins_turned SyncDevice result f g turned = begins_at f g _ turned (begins_synced result f)
+begins_turned (WriteOut b) result f g turned = same_begins f g _ turned.1 (out_log (is_spelled f b) (is_ok result) turned.0 b f).0
+begins_turned BeginCheckpoint result f g turned = seal_begins f g _ turned.1 refl
+begins_turned WriteRestart result f g turned = begins_at f g _ turned (begins_restarted result g.log.sent f)
+
 -- ---- moments
 
 pub later_after : (n : ℕ) → n ≤ moment_after n
@@ -263,23 +313,23 @@ module _ {D : Type 0} (gives : D → Option (List (List ℕ))) (count moment : D
   abbrev g : StoreFacts
   g = facts_of new.state
 
-  pub goes_in_memory : (base : StoreFacts) (After : StoreWindow → StoreWindow → Type 0) → new.device ≡ old.device → Fewer base g → ((w v : StoreWindow) → After w v → Spares base w v) → lap_behind f ≤ lap_behind g → TakesStep count moment changes After old new → Goes count moment changes base old new
-  goes_in_memory base After same fewer spares rises step = goes_step count moment changes base After old new (let e = ap moment same in omega (arith, e)) (ap count same) fewer spares rises (λ w first has off. none_stays (count old.device) f.found first (changes old.device) (changes new.device) (ap changes same)) step
+  pub goes_in_memory : (base : StoreFacts) (After : StoreWindow → StoreWindow → Type 0) → new.device ≡ old.device → Fewer base g → ((w v : StoreWindow) → After w v → Spares base w v) → lap_behind f ≤ lap_behind g → BeginsNoPage f g → TakesStep count moment changes After old new → Goes count moment changes base old new
+  goes_in_memory base After same fewer spares rises begins step = goes_step count moment changes base After old new (let e = ap moment same in omega (arith, e)) (ap count same) fewer spares rises begins (λ w first has off. none_stays (count old.device) f.found first (changes old.device) (changes new.device) (ap changes same)) step
 
   pub goes_turned : (step : StoreStep) (result : Result (Unit {0}) Failed) → ((c : Block) → (f.mark c).dirty ≡ true → is_some (f.body c) ≡ true) → MayTurn f step → HasTurned step result f g
       → TurnsDevice gives changes moment step result f g old.words new.words old.device new.device → count new.device ≡ count old.device → TakesStep count moment changes (AfterTurn step result f) old new → Goes count moment changes f old new
   goes_turned step result kept may turned sent sectors takes =
       goes_step count moment changes f (AfterTurn step result f) old new (later_turned gives changes moment old.device new.device step result f g old.words new.words kept may sent) sectors (fewer_turned step result f g turned)
-      (spares_turned f f step result (fewer_same f) may) (rises_turned step result f g turned)
+      (spares_turned f f step result (fewer_same f) may) (rises_turned step result f g turned) (begins_turned step result f g turned)
       (λ w first has off. turn_stays gives changes moment (count old.device) first f g old.device new.device (window_machine (changes old.device) f w has) off step result old.words new.words kept may sent) takes
 
   pub goes_restarted : {ends : Bool} (clean : Bool) (result : Result (Unit {0}) Failed) → g ≡ restart_facts result new.state.log.sent f → SendsRestartPage gives changes moment clean f g result old.device new.device → count new.device ≡ count old.device
       → TakesStepAs ends count moment changes AfterWrite old new → GoesAs ends ends count moment changes f old new
   goes_restarted clean result facts sent sectors takes =
-      goes_step count moment changes f AfterWrite old new (later_sent gives changes moment old.device new.device _ _ _ _ result sent) sectors (fewer_turned WriteRestart result f g facts) (spares_written f) (rises_turned WriteRestart result f g facts)
+      goes_step count moment changes f AfterWrite old new (later_sent gives changes moment old.device new.device _ _ _ _ result sent) sectors (fewer_turned WriteRestart result f g facts) (spares_written f) (rises_turned WriteRestart result f g facts) (begins_turned WriteRestart result f g facts)
       (λ w first has off. restart_stays gives changes moment (count old.device) first f g old.device new.device (window_machine (changes old.device) f w has) off clean result sent) takes
 
   pub goes_synced : {ends : Bool} (result : Result (Unit {0}) Failed) → g ≡ sync_facts result f → Syncs (moment old.device) result (changes old.device) (changes new.device) → moment new.device ≡ moment_after (moment old.device) → count new.device ≡ count old.device → TakesStepAs ends count moment changes (AfterSync result f) old new → GoesAs ends ends count moment changes f old new
   goes_synced result facts syncs later sectors takes =
-      goes_step count moment changes f (AfterSync result f) old new (begun_later (moment old.device) (moment old.device) (moment new.device) (omega arith) later) sectors (fewer_turned SyncDevice result f g facts) (spares_synced f f result (fewer_same f)) (rises_turned SyncDevice result f g facts)
+      goes_step count moment changes f (AfterSync result f) old new (begun_later (moment old.device) (moment old.device) (moment new.device) (omega arith) later) sectors (fewer_turned SyncDevice result f g facts) (spares_synced f f result (fewer_same f)) (rises_turned SyncDevice result f g facts) (begins_turned SyncDevice result f g facts)
       (λ w first has off. sync_stays (count old.device) (moment old.device) result f.found first (changes old.device) (changes new.device) syncs) takes

@@ -8,6 +8,7 @@ use Rattle.store_model.specs.Geometry.{SectorBytes}
 use Rattle.store_claims.specs.Moves.{Keeps}
 use Rattle.store_claims.specs.Windows.{StoreWindow}
 use Rattle.found_stays.specs.txn_model.Values.{StoreFacts, own_of}
+use Rattle.found_stays.specs.txn_model.Told.{pages_end}
 use Rattle.found_stays.specs.txn_state.States.{facts_of}
 use Rattle.found_stays.specs.txn_laws.Windows.{HasWindowAs, RecoversWithin, lap_behind, LapsDuring}
 use Rattle.found_stays.specs.txn_core.Seen.{Seen}
@@ -34,13 +35,20 @@ LeavesWithin base count moment old now f w = (t : ℕ) (image : List (List ℕ))
 abbrev pub LeavesFound : Bool → ℕ → Changes → Changes → StoreFacts → Type 0
 LeavesFound ends count old now f = (w : StoreWindow) (first : SectorBytes) → HasWindowAs ends old f w → AreOffLog f.place f.found → StaysOver count f.found first old now
 
--- Whatever window the store had, it has one that follows, as what a crash inside the calls leaves has; its device wasn't known only now; its log lies where it did; the lap behind its next entry doesn't fall, and a mount of what a crash inside the calls leaves begins none behind that one; and the blocks by which the log is found stay. The store ends, or goes on, before them and behind them.
+-- the ring of the log is as long, its first page is of the same lap, and as many pages were begun
+pub record BeginsNoPage (f g : StoreFacts) : Type 0 where
+  pub pages : g.log.pages ≡ f.log.pages
+  pub lap : g.log.lap ≡ f.log.lap
+  pub begun : pages_end g ≡ pages_end f
+
+-- Whatever window the store had, it has one that follows, as what a crash inside the calls leaves has; its device wasn't known only now; its log lies where it did, and no page of it is begun; the lap behind its next entry doesn't fall, and a mount of what a crash inside the calls leaves begins none behind that one; and the blocks by which the log is found stay. The store ends, or goes on, before them and behind them.
 pub record PassesAs (ends last : Bool) (base : StoreFacts) (count moment : ℕ) (old now : Changes) (f g : StoreFacts) : Type 0 where
   pub known : (e : Disk) → now.disk ≡ Some e → (d : Disk) × (old.disk ≡ Some d)
   pub place : g.place ≡ f.place
   pub found : g.found ≡ f.found
   pub steps : (w : StoreWindow) → HasWindowAs ends old f w → (v : StoreWindow) × HasWindowAs last now g v × Spares base w v × LeavesWithin base count moment old now f w
   pub rises : lap_behind f ≤ lap_behind g
+  pub begins_none : BeginsNoPage f g
   pub laps : (w : StoreWindow) → HasWindowAs ends old f w → LapsDuring count moment old now f g
   pub stays : LeavesFound ends count old now f
 

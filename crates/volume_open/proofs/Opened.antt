@@ -1,7 +1,6 @@
 -- What a start gives to a volume over it.
 use Rattle.std.proofs.Common.{◌≡◌, ℕ, ◌^◌, ◌≤◌, List, [], ◌∷◌, Option, Some, None, refl, sym, ap, subst, ◌∙◌, arith}
 use Rattle.std.specs.Prelude.{IfSome}
-use Rattle.sector_device.specs.Disks.{IsSettled}
 use Rattle.sector_device.specs.Moments.{Changes}
 use Rattle.file_tree.specs.declared.tree.Tree.{Tree}
 use Rattle.volume_state.specs.Trees.{tree_of}
@@ -62,7 +61,7 @@ module _ (count : ℕ) (first : List (List ℕ)) (gave : Option (List (List ℕ)
 
 -- ---- on any device
 
-module _ {D : Type 0} (gives : D → Option (List (List ℕ))) (count : D → ℕ) (changes : D → Changes) (old : D) (settled : IfSome (changes old).disk IsSettled) where
+module _ {D : Type 0} (gives : D → Option (List (List ℕ))) (count : D → ℕ) (changes : D → Changes) (old : D) where
   module _ (new : D) (state : StateOf) (p : MapParts) (table : List ℕ) (s : VolumeStreams) (anywhere : BeginsAnywhere (gives old) (gives new) state) (starts : StartsOn gives count changes old new state p table s) where
     pub holds : HoldsState (gives new) (changes new) state p table
     holds = by (gives old) refl
@@ -76,7 +75,7 @@ module _ {D : Type 0} (gives : D → Option (List (List ℕ))) (count : D → �
               shown = subst (λ (x : Option (List (List ℕ))). IfSome (present_content x state) (IsStateOf p table)) (sym none) tt;
               spares = subst (λ (x : Option (List (List ℕ))). IfSome x (SparesState (changes new) (facts_of state) p.volume)) (sym none) tt;
             }
-        by (Some first) is = (let start = starts first is settled in subst (λ (x : Option (List (List ℕ))). HoldsState x (changes new) state p table) (sym start.given) start.begins.holds)
+        by (Some first) is = (let start = starts first is in subst (λ (x : Option (List (List ℕ))). HoldsState x (changes new) state p table) (sym start.given) start.begins.holds)
 
     pub ready : IfSome (present_content (gives new) state) (IsReady (facts_of state) p table s)
     ready = by (gives old) refl
@@ -84,14 +83,14 @@ module _ {D : Type 0} (gives : D → Option (List (List ℕ))) (count : D → �
         by : (o : Option (List (List ℕ))) → gives old ≡ o → IfSome (present_content (gives new) state) (IsReady (facts_of state) p table s)
         by None is = subst (λ (x : Option (List (List ℕ))). IfSome (present_content x state) (IsReady (facts_of state) p table s)) (sym (anywhere.unknown is)) tt
         by (Some first) is =
-            let start = starts first is settled in
+            let start = starts first is in
             subst (λ (x : Option (List (List ℕ))). IfSome (present_content x state) (IsReady (facts_of state) p table s)) (sym start.given) (is_ready (count new) first (gives new) (changes new) state p table s start)
 
   -- the volume over it
   module _ (v : SeenVolume D) (s : VolumeStreams) (history : StartsHistory gives count changes v) (starts : StartsOn gives count changes old v.store.device v.store.state v.map v.table s) where
     opened : (first : List (List ℕ)) → gives old ≡ Some first → IsOpened gives count changes first v
     opened first known =
-        let start = starts first known settled in
+        let start = starts first known in
         let same = tree_is (count v.store.device) first (gives v.store.device) (changes v.store.device) v.store.state v.map v.table s start in
         record {
           mounted = start.mounted;
@@ -102,6 +101,7 @@ module _ {D : Type 0} (gives : D → Option (List (List ℕ))) (count : D → �
           durable = (let none = ap (λ (f : StoreFacts). f.commits) start.begins.begins.facts in omega (arith, none));
           map = start.map;
           table = start.table_is;
+          log = start.log;
         }
 
     pub opens : IfSome (gives old) (λ first. IsOpened gives count changes first v)

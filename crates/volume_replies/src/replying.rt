@@ -1,10 +1,11 @@
 //! The reply of a volume.
 ghost use Rattle.std.specs.Prelude.{◌≡◌, true};
+ghost use Rattle.script_text.specs.Asking.{is_asked};
 ghost use Rattle.serial_run.specs.Volumes.{TellsFaults};
 ghost use Rattle.tree_model.specs.declared.script.Op.TheVariants.{Sync};
 ghost use Rattle.tree_model.specs.Steps.{is_look, IsWithinBounds};
 ghost use Rattle.volume_sync.specs.volume_core.Volumes.{volume_tree};
-ghost use Rattle.volume_replies.specs.Replies.{RepliesOn, SyncsOn, is_replied, Answers};
+ghost use Rattle.volume_replies.specs.Replies.{RepliesOn, SyncsOn, Answers};
 
 use crate::rooming::change_with_room;
 use sector_device::Device;
@@ -47,7 +48,7 @@ pub fn reply_to<D: Device>(
     stamp: u64,
     turns: u64,
 ) -> Reply
-    requires replied { is_replied op.now ≡ true }
+    requires asked { is_asked op.now ≡ true }
     requires bounds { IsWithinBounds op.now }
     ensures answers { Answers D.gives D.sector_count D.moment_of D.changes_of op.now stamp turns result volume.old volume.new }
     ensures told { TellsFaults (volume_tree D.gives volume.old) (D.fault_count volume.old.store.device) (D.fault_count volume.new.store.device) (D.moment_of volume.old.store.device) (D.moment_of volume.new.store.device) result }

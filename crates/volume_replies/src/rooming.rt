@@ -5,12 +5,30 @@ ghost use Rattle.tree_model.specs.Steps.{IsWithinBounds};
 ghost use Rattle.volume_sync.specs.volume_core.change_plan.States.{is_data_change};
 ghost use Rattle.volume_sync.specs.volume_core.working_volume.declared.fault.DoFault.TheVariants.{NeedsRoom};
 ghost use Rattle.volume_sync.specs.volume_core.Volumes.{volume_tree};
-ghost use Rattle.volume_replies.specs.Replies.{RepliesOn, IsTried, reply_of};
+ghost use Rattle.volume_replies.specs.Replies.{RepliesOn, IsTried, settled, reply_of};
 
 use sector_device::Device;
 use std::alloc::Global;
 use tree_model::{Op, Reply};
 use volume_sync::{DoFault, Failed, Volume, make_room};
+
+// What a try has come to: one that wanted room and yet used pages of the log wants memory, so that it
+// isn't tried without end.
+fn settled(tried: Result<Reply, DoFault>, idle: bool) -> Result<Reply, DoFault>
+    ensures { result ≡ settled idle tried }
+{
+    match tried {
+        Ok(reply) => Ok(reply),
+        Err(DoFault::NeedsRoom { pages, room }) => {
+            if idle {
+                Err(DoFault::NeedsRoom { pages, room })
+            } else {
+                Ok(Reply::Memory)
+            }
+        }
+        Err(DoFault::Unknown) => Err(DoFault::Unknown),
+    }
+}
 
 // Tries an operation, where the log has numbers left.
 fn try_change<D: Device>(
@@ -26,7 +44,11 @@ fn try_change<D: Device>(
     if !volume.may_change() {
         return Err(DoFault::NeedsRoom { pages: 0, room: 0 });
     }
-    volume.change(alloc, op, stamp)
+    volume.known();
+    let before = volume.facts();
+    let tried = volume.change(alloc, op, stamp);
+    let after = volume.facts();
+    settled(tried, after.pages_used == before.pages_used)
 }
 
 // How many pages of the log are wanted, where these are more than were made free before.

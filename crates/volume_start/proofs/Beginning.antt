@@ -1,18 +1,15 @@
 -- From both mounts to the start of a volume.
-use Rattle.std.proofs.Common.{◌≡◌, ℕ, ◌*◌, ◌^◌, ◌<◌, ◌≤◌, Bool, List, length, Option, Some, None, Result, Ok, Err, refl, sym, ap, subst, ◌∙◌, arith}
+use Rattle.std.proofs.Common.{◌≡◌, ℕ, ◌*◌, ◌^◌, ◌<◌, ◌≤◌, List, length, Option, Some, None, Result, Ok, refl, sym, ap, subst, ◌∙◌, arith}
 use mathlib.Core.Path.{fun_ext}
 use Rattle.std.specs.Prelude.{IfSome}
 use Rattle.disk_model.specs.declared.block.Block.{Block}
 use Rattle.disk_model.specs.Sectors.{sector_of}
-use Rattle.disk_model.specs.Content.{Content, content_of}
-use Rattle.sector_device.specs.Disks.{Disk, IsSettled, SeesDisk}
+use Rattle.disk_model.specs.Content.{content_of}
+use Rattle.sector_device.specs.Disks.{Disk, IsSettled, SeesDisk, seen}
 use Rattle.sector_device.specs.Moments.{Changes}
 use Rattle.sector_device.specs.Sectors.{IsDiskOf}
 use Rattle.state_model.specs.declared.geometry.Geometry.{Geometry}
-use Rattle.volume_model.specs.Volumes.{Volume, record_bits, cluster_bits}
-use Rattle.mounted_states.specs.volume_map.declared.head.Head.{Head}
 use Rattle.mounted_states.specs.volume_map.declared.map.VolumeMap.{VolumeMap}
-use Rattle.mounted_states.specs.volume_map.Heads.{heads_of}
 use Rattle.mounted_states.specs.volume_map.Maps.{volume_in}
 use Rattle.mounted_states.specs.map_change.Parts.{MapParts, parts_of, parts_in, geometry_in}
 use Rattle.log_page.specs.declared.places.LogPlace.{LogPlace}
@@ -20,16 +17,16 @@ use Rattle.store_model.specs.Geometry.{SectorBytes}
 use Rattle.file_puts.specs.Written.{AreStreamsOf}
 use Rattle.file_puts.specs.plan_edits.Edits.{StateHasBitmap}
 use Rattle.log_recovery.specs.LogStates.{LogState}
-use Rattle.log_recovery.specs.Writing.{state_with}
-use Rattle.mounted_states.specs.image_open.declared.refusal.Refusal.{Refusal}
+use Rattle.log_reading.specs.declared.fault.LogRefusal.{LogRefusal}
+use Rattle.log_reading.specs.Rings.{IsRingPlace}
+use Rattle.log_recovery.specs.Writing.{state_with, to_write_in}
 use Rattle.mounted_states.specs.image_open.LogPlaces.{LieAlike}
 use Rattle.mounted_states.specs.image_open.Writing.{found_by}
-use Rattle.mounted_states.specs.volume_mount.declared.mounted.Mounted.{Mounted}
-use Rattle.mounted_states.specs.volume_mount.Mounts.{MountedVolume, mounted_in, mounted_of}
-use Rattle.mounted_states.specs.volume_mount.Answers.{IsMounted as IsVolumeMounted, IsMountedAs}
+use Rattle.mounted_states.specs.volume_mount.Mounts.{MountedVolume, mounted_in}
 use Rattle.mounted_states.specs.state_store.Volumes.{geometry_of}
 use Rattle.txn_model.specs.Values.{StoreFacts}
 use Rattle.txn_model.specs.Calls.{first_facts}
+use Rattle.txn_model.specs.Told.{pages_end}
 use Rattle.txn_state.specs.States.{StateOf, facts_of, IsStore}
 use Rattle.txn_mount.specs.Mounts.{IsMounted, ShowsRecovered, ShowsDisk}
 use Rattle.txn_mount.specs.Laws.{MayMount}
@@ -45,35 +42,12 @@ use Rattle.mounted_states.proofs.Opened.{on_sectors}
 use Rattle.volume_start.specs.declared.plan.StartPlan.{StartPlan}
 use Rattle.volume_start.specs.Fitting.{FitsStart}
 use Rattle.volume_start.specs.Plans.{PlansOn}
-use Rattle.volume_start.specs.Starts.{IsStarted}
+use Rattle.volume_start.specs.Starts.{BeginsLog, IsStarted}
 use Rattle.volume_start.specs.Streams.{HasStreams}
+use Rattle.volume_start.proofs.Meant.{Meant, found_meant as found_on, map_of_meant, reads}
 
--- ---- what was mounted
-
--- the volume that is meant
-pub record Meant (first : List (List ℕ)) (mounted : Mounted) : Type 0 where
-  pub meant : MountedVolume
-  pub is : mounted_of first ≡ Ok meant
-  pub mounts : IsVolumeMounted (content_of (sector_of first)) meant mounted
-
-pub meant_by : (first : List (List ℕ)) (mounted : Mounted) (r : Result MountedVolume Refusal) → mounted_of first ≡ r → IsMountedAs (content_of (sector_of first)) r mounted → Meant first mounted
-meant_by first mounted (Ok m) is mounts = record { meant = m; is = is; mounts = mounts }
-meant_by first mounted (Err e) is mounts = absurd mounts
-
-parts_with : Volume → List Head → List Bool → List Bool → MapParts
-parts_with v heads records clusters = record { volume = v; heads = heads; records = records; clusters = clusters }
-
--- its map is that of the recovered content
-pub map_of_meant : (c : Content) (m : MountedVolume) (mounted : Mounted) → IsVolumeMounted c m mounted → parts_in mounted.map ≡ parts_of m.content m.volume
-unfolding parts_with
-map_of_meant c m mounted is =
-    let v = volume_in mounted.map in
-    let own : parts_with v mounted.map.heads.items mounted.map.record_bits mounted.map.cluster_bits ≡ parts_with v (heads_of m.content v) (record_bits m.content v) (cluster_bits m.content v) =
-    ap (λ (h : List Head). parts_with v h mounted.map.record_bits mounted.map.cluster_bits) is.parts.heads
-    ∙ ap (λ (r : List Bool). parts_with v (heads_of m.content v) r mounted.map.cluster_bits) is.parts.records
-    ∙ ap (λ (b : List Bool). parts_with v (heads_of m.content v) (record_bits m.content v) b) is.parts.clusters
-    in
-    own ∙ ap (parts_of m.content) is.volume
+same_state : (x y : LogState) → ◌≡◌ {A = Result LogState LogRefusal} (Ok x) (Ok y) → x ≡ y
+same_state x y is = cc
 
 module _ {D : Type 0} (gives : D → Option (List (List ℕ))) (count : D → ℕ) (changes : D → Changes) (faults moment : D → ℕ) (sees : (d : D) → SeesDisk (gives d) (changes d).disk) (whole : (d : D) → IfSome (gives d) (IsDiskOf (count d))) (few : (d : D) → count d < 2 ^ 55)
     (mounts_law : MountsHoldStates) (off_law : FoundLieOff) (out_law : AllPutOut) (keeps_law : StoresKeepFound gives count changes faults moment) (begin_law : StoresBegin) (change_law : StoresMayBeChanged) (show_law : StoresShowMounted) (bits_law : StateHasBitmap)
@@ -82,8 +56,8 @@ module _ {D : Type 0} (gives : D → Option (List (List ℕ))) (count : D → �
   abbrev f : StoreFacts
   f = facts_of state
 
-  found_meant : Meant first on.mounted
-  found_meant = meant_by first on.mounted (mounted_of first) refl on.mounts
+  abbrev found_meant : Meant first on.mounted
+  found_meant = found_on mounts_law first plan (count old) fits on
 
   abbrev m : MountedVolume
   m = found_meant.meant
@@ -153,6 +127,28 @@ module _ {D : Type 0} (gives : D → Option (List (List ℕ))) (count : D → �
 
   shows_state : ShowsRecovered state.place state.found (changes old) (changes new) (facts_of state)
   shows_state = subst (λ (l : List Block). ShowsRecovered state.place l (changes old) (changes new) (facts_of state)) (sym kept_is) (subst (λ (p : LogPlace). ShowsRecovered p plan.kept.items (changes old) (changes new) (facts_of state)) (sym place_is) shows)
+
+  -- ---- its session
+
+  lap_is : mounted.found.recovered.next_lap ≡ found_meant.meant.opened.state.next_lap
+  lap_is = by (changes old).disk before mounted.calls.may
+    where
+      by : (o : Option Disk) → SeesDisk (Some first) o → IfSome o (MayMount plan.place plan.kept.items (state_with mounted.calls.list mounted.found.recovered) (items_by mounted.found mounted.calls.keys)) → mounted.found.recovered.next_lap ≡ found_meant.meant.opened.state.next_lap
+      by None saw may = absurd saw
+      by (Some raw) saw may =
+          let at : sector_of first ≡ seen raw = fun_ext saw in
+          let log : LogState = state_with mounted.calls.list mounted.found.recovered in
+          let read : to_write_in (content_of (sector_of first)) plan.place plan.kept.items ≡ Ok log = ap (λ (s : SectorBytes). to_write_in (content_of s) plan.place plan.kept.items) at ∙ may.read in
+          ap (λ (s : LogState). s.next_lap) (same_state log found_meant.meant.opened.state (sym read ∙ reads mounts_law first plan (count old) fits on))
+
+  begins_log : BeginsLog found_meant.meant (facts_of state)
+  begins_log = record {
+    alike = alike;
+    ring = subst IsRingPlace (sym place_is) fits.ring;
+    lap = ap (λ (g : StoreFacts). g.log.lap) mounted.start ∙ lap_is;
+    pages = ap (λ (g : StoreFacts). g.log.pages) mounted.start ∙ sym (ap (λ (g : StoreFacts). g.place.pages) mounted.start);
+    empty = ap pages_end mounted.start;
+  }
 
   -- ---- its disk
 
@@ -230,6 +226,7 @@ module _ {D : Type 0} (gives : D → Option (List (List ℕ))) (count : D → �
       device = subst (λ (n : ℕ). 8 * n ≤ state.place.device) begins.clusters whole_is;
       eight = eight;
       shows = show_law (count new) first disk found_meant.meant (changes old) (changes new) (facts_of state) both;
+      log = begins_log;
     }
 
   -- its disk is known

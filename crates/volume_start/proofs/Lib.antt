@@ -1,6 +1,11 @@
 mod Sums
 mod Fitted
+mod Meant
+mod Known
 mod Beginning
 mod Anywhere
 mod Answering
+mod Failing
+mod Sound
 mod Staying
+mod Leaving

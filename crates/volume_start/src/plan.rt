@@ -1,11 +1,12 @@
 //! What a start has in memory before a store is mounted.
-ghost use Rattle.std.specs.Prelude.{◌≡◌, ◌↔◌, true, length, IfOk, IfErr, IfSome, IsErrOf};
+ghost use Rattle.std.specs.Prelude.{◌≡◌, ◌<◌, ◌↔◌, true, length, IfOk, IfErr, IfSome, IsErrOf};
 ghost use Rattle.std.specs.List.{list_all};
-ghost use Rattle.host_base.specs.Causes.{HasFailed};
-ghost use Rattle.device_view.specs.Devices.{KeepsDevice};
+ghost use Rattle.host_base.specs.Causes.{HasFailed, last_moment};
+ghost use Rattle.device_view.specs.Devices.{KeepsDevice, CountsOnDevice};
 ghost use Rattle.mounted_states.specs.map_change.Parts.{geometry_in};
 ghost use Rattle.mounted_states.specs.map_change.Plain.{is_plain};
 ghost use Rattle.mounted_states.specs.image_open.Writing.{found_by};
+ghost use Rattle.volume_start.specs.Faults.{count_cause};
 ghost use Rattle.volume_start.specs.Plans.{PlansFrom, PlansOn, FitsPlan};
 ghost use Rattle.volume_start.specs.Fitting.{FitsStart};
 ghost use Rattle.volume_start.specs.Starts.{RefusesAs, UnfitAs, UnknownAs, IsUnfit, IsInMemory};
@@ -139,6 +140,7 @@ pub fn prepare<D: Device>(alloc: Global, device: &mut D) -> Result<StartPlan, St
     ensures unknown { IfSome (D.gives device.old) (λ first. IfErr result (UnknownAs (D.sector_count device.old) first)) }
     ensures kept { KeepsDevice D.gives D.sector_count D.changes_of D.fault_count D.moment_of device.old device.new }
     ensures fault { IsErrOf result StartFault.Device → HasFailed (D.fault_count device.old) (D.fault_count device.new) (D.moment_of device.new) }
+    ensures counted { D.moment_of device.old < last_moment → CountsOnDevice count_cause (D.fault_count device.old) (D.fault_count device.new) (D.moment_of device.new) result }
 {
     let mounted = mount(alloc, device)?;
     planned(alloc, device.sectors(), mounted)

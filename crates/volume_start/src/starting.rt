@@ -1,22 +1,24 @@
 //! A volume is started.
-ghost use Rattle.std.specs.Prelude.{◌≡◌, ◌≢◌, length, IfOk, IfErr, IfSome};
-ghost use Rattle.host_base.specs.Causes.{HasFailed};
-ghost use Rattle.device_view.specs.Devices.{KeepsDevice};
+ghost use Rattle.std.specs.Prelude.{◌≡◌, ◌<◌, length, IfOk, IfErr, IfSome, OnOk, OnErr};
+ghost use Rattle.host_base.specs.Causes.{HasFailed, last_moment};
+ghost use Rattle.sector_device.specs.Disks.{IsSettled};
+ghost use Rattle.device_view.specs.Devices.{CountsOnDevice};
 ghost use Rattle.mounted_states.specs.map_change.Parts.{live_parts};
 ghost use Rattle.mounted_states.specs.volume_tree.Named.{AreNamesOf};
-ghost use Rattle.volume_start.specs.Faults.{device_behind};
+ghost use Rattle.volume_start.specs.Faults.{cause_of, device_behind};
 ghost use Rattle.volume_start.specs.Plans.{PlansOn, FitsPlan};
-ghost use Rattle.volume_start.specs.Starts.{StartsOn, BeginsAnywhere, RefusesAs, UnfitAs, UnknownAs, StaysStarted};
-ghost use Rattle.volume_start.specs.declared.fault.StartFault.TheVariants as faults;
+ghost use Rattle.volume_start.specs.Starts.{StartsOn, BeginsAnywhere, IsUnwritten, FailsBehind, FailsStart, StaysStarted};
 
 use crate::fault::StartFault;
 use crate::plan::{StartPlan, prepare};
 use file_puts::{VolumeStreams, state_has_bitmap};
+use host_base::Failed;
 use mounted_states::{
     LiveMap, Names, all_put_out, found_lie_off, mounts_hold_states, stores_begin,
     stores_keep_found, stores_may_be_changed, stores_show_mounted,
 };
-use sector_device::Device;
+use sector_device::{Device, LAST_MOMENT};
+use start_mounts::stopped_starts_mount;
 use std::alloc::Global;
 use txn_mount::Store;
 use upcase_order::Upcase;
@@ -38,30 +40,45 @@ pub struct Started<D: Device> {
     pub room: Vec<u8>,
 }
 
-// Mounts the store of a volume of which all else is in memory.
-fn begin<D: Device>(
+// Syncs the device, so that nothing of it is unsynced, and tries that its last moment hasn't come.
+fn settle<D: Device>(device: &mut D) -> Result<(), Failed>
+    ensures settled { OnOk result (IfSome (D.changes_of device.new).disk IsSettled) }
+    ensures before { OnOk result (D.moment_of device.new < last_moment) }
+    ensures counted { OnOk result (D.fault_count device.new ≡ D.fault_count device.old) }
+    ensures fault { OnErr result (HasFailed (D.fault_count device.old) (D.fault_count device.new) (D.moment_of device.new)) }
+    ensures unwritten { IsUnwritten D.gives D.sector_count D.changes_of D.fault_count D.moment_of device.old device.new }
+{
+    device.sync()?;
+    if device.moment() >= LAST_MOMENT {
+        return Err(Failed);
+    }
+    Ok(())
+}
+
+// Mounts the store of a volume of which all else is in memory, on a device that was synced.
+fn mount_store<D: Device>(
     alloc: Global,
     device: D,
     plan: StartPlan,
 ) -> Result<Started<D>, (StartFault, D)>
+    requires settled { IfSome (D.changes_of device).disk IsSettled }
+    requires before { D.moment_of device < last_moment }
     requires fits { FitsPlan (D.sector_count device) plan }
     requires on { IfSome (D.gives device) (λ first. PlansOn first plan) }
     ensures starts { IfOk result (λ s. StartsOn D.gives D.sector_count D.changes_of device s.store.device s.store.state (live_parts s.live) s.upper s.streams) }
     ensures anywhere { IfOk result (λ s. BeginsAnywhere (D.gives device) (D.gives s.store.device) s.store.state) }
     ensures named { IfOk result (λ s. AreNamesOf s.names s.live.map.files.items) }
     ensures sized { IfOk result (λ s. length s.room.items ≡ 65536) }
-    ensures stays { IfSome (D.gives device) (λ first. StaysStarted (D.moment_of device) first (D.changes_of device) (D.changes_of (device_behind result (λ s. s.store.device)))) }
+    ensures stays { IfSome (D.gives device) (λ first. StaysStarted (D.sector_count device) (D.moment_of device) first (D.changes_of device) (D.changes_of (device_behind result (λ s. s.store.device)))) }
     ensures sectors { D.sector_count (device_behind result (λ s. s.store.device)) ≡ D.sector_count device }
-    ensures fault { IfErr result (λ e. e.0 ≡ faults.Device → HasFailed (D.fault_count device) (D.fault_count e.1) (D.moment_of e.1)) }
-    ensures refused { IfSome (D.gives device) (λ first. IfErr result (λ e. RefusesAs first e.0)) }
-    ensures known { IfSome (D.gives device) (λ first. IfErr result (λ e. e.0 ≢ faults.Unknown)) }
-    ensures unfit { IfSome (D.gives device) (λ first. IfErr result (λ e. UnfitAs first e.0)) }
-    ensures unwritten { IfErr result (λ e. e.0 ≢ faults.Device → KeepsDevice D.gives D.sector_count D.changes_of D.fault_count D.moment_of device e.1) }
+    ensures errors { IfErr result (FailsBehind D.gives D.sector_count D.changes_of D.fault_count D.moment_of device) }
+    ensures counted { CountsOnDevice cause_of (D.fault_count device) (D.fault_count (device_behind result (λ s. s.store.device))) (D.moment_of (device_behind result (λ s. s.store.device))) result }
 {
     all_put_out();
     found_lie_off();
     mounts_hold_states();
     state_has_bitmap();
+    stopped_starts_mount();
     stores_begin();
     stores_keep_found(&device);
     stores_may_be_changed();
@@ -92,13 +109,37 @@ fn begin<D: Device>(
     }
 }
 
+// Syncs the device, and mounts the store of a volume of which all else is in memory.
+fn begin<D: Device>(
+    alloc: Global,
+    mut device: D,
+    plan: StartPlan,
+) -> Result<Started<D>, (StartFault, D)>
+    requires fits { FitsPlan (D.sector_count device) plan }
+    requires on { IfSome (D.gives device) (λ first. PlansOn first plan) }
+    ensures starts { IfOk result (λ s. StartsOn D.gives D.sector_count D.changes_of device s.store.device s.store.state (live_parts s.live) s.upper s.streams) }
+    ensures anywhere { IfOk result (λ s. BeginsAnywhere (D.gives device) (D.gives s.store.device) s.store.state) }
+    ensures named { IfOk result (λ s. AreNamesOf s.names s.live.map.files.items) }
+    ensures sized { IfOk result (λ s. length s.room.items ≡ 65536) }
+    ensures stays { IfSome (D.gives device) (λ first. StaysStarted (D.sector_count device) (D.moment_of device) first (D.changes_of device) (D.changes_of (device_behind result (λ s. s.store.device)))) }
+    ensures sectors { D.sector_count (device_behind result (λ s. s.store.device)) ≡ D.sector_count device }
+    ensures errors { IfErr result (FailsBehind D.gives D.sector_count D.changes_of D.fault_count D.moment_of device) }
+    ensures counted { CountsOnDevice cause_of (D.fault_count device) (D.fault_count (device_behind result (λ s. s.store.device))) (D.moment_of (device_behind result (λ s. s.store.device))) result }
+{
+    match settle(&mut device) {
+        Ok(()) => mount_store(alloc, device, plan),
+        Err(Failed) => Err((StartFault::Device, device)),
+    }
+}
+
 /// Starts the volume on the device: mounts it ([`volume_mount::mount`]), takes all memory that
-/// operations need, and then mounts a store where it lies ([`txn_mount::mount`]), which recovers it
-/// by its log and opens a session there.
+/// operations need, syncs the device, and then mounts a store where the volume lies
+/// ([`txn_mount::mount`]), which recovers it by its log and opens a session there.
 ///
-/// It costs what both mounts do. Each error gives the device back, which was only read unless the
-/// answer is [`StartFault::Device`]. Whatever is answered, an image that a crash leaves inside the
-/// start or behind it could be left before, or is recovered to the same content.
+/// It costs what both mounts do, and a sync. Each error gives the device back, to which nothing was
+/// written unless the answer is [`StartFault::Device`]; a known one was only read, but where memory
+/// is wanting behind the sync. Whatever is answered, an image that a crash leaves inside the start
+/// or behind it could be left before, or mounts as the same tree, where the volume's log is sound.
 /// - [`StartFault::Refused`]: the volume isn't mounted, with the mount's first refusal.
 /// - [`StartFault::Device`]: the device failed.
 /// - [`StartFault::Memory`]: want of memory.
@@ -111,13 +152,10 @@ pub fn start<D: Device>(alloc: Global, mut device: D) -> Result<Started<D>, (Sta
     ensures anywhere { IfOk result (λ s. BeginsAnywhere (D.gives device) (D.gives s.store.device) s.store.state) }
     ensures named { IfOk result (λ s. AreNamesOf s.names s.live.map.files.items) }
     ensures sized { IfOk result (λ s. length s.room.items ≡ 65536) }
-    ensures stays { IfSome (D.gives device) (λ first. StaysStarted (D.moment_of device) first (D.changes_of device) (D.changes_of (device_behind result (λ s. s.store.device)))) }
+    ensures stays { IfSome (D.gives device) (λ first. StaysStarted (D.sector_count device) (D.moment_of device) first (D.changes_of device) (D.changes_of (device_behind result (λ s. s.store.device)))) }
     ensures sectors { D.sector_count (device_behind result (λ s. s.store.device)) ≡ D.sector_count device }
-    ensures fault { IfErr result (λ e. e.0 ≡ faults.Device → HasFailed (D.fault_count device) (D.fault_count e.1) (D.moment_of e.1)) }
-    ensures refused { IfSome (D.gives device) (λ first. IfErr result (λ e. RefusesAs first e.0)) }
-    ensures unknown { IfSome (D.gives device) (λ first. IfErr result (λ e. UnknownAs (D.sector_count device) first e.0)) }
-    ensures unfit { IfSome (D.gives device) (λ first. IfErr result (λ e. UnfitAs first e.0)) }
-    ensures unwritten { IfErr result (λ e. e.0 ≢ faults.Device → KeepsDevice D.gives D.sector_count D.changes_of D.fault_count D.moment_of device e.1) }
+    ensures errors { IfErr result (FailsStart D.gives D.sector_count D.changes_of D.fault_count D.moment_of device) }
+    ensures counted { D.moment_of device < last_moment → CountsOnDevice cause_of (D.fault_count device) (D.fault_count (device_behind result (λ s. s.store.device))) (D.moment_of (device_behind result (λ s. s.store.device))) result }
 {
     match prepare(alloc, &mut device) {
         Ok(plan) => begin(alloc, device, plan),

@@ -18,7 +18,8 @@ use Rattle.volume_core.specs.txn_mount.Mountable.{IsFar}
 use Rattle.volume_core.specs.txn_core.Kept.{IsKept}
 use Rattle.volume_core.specs.txn_core.Seen.{TakesStep}
 use Rattle.volume_core.specs.txn_core.Steps.{AfterTurn}
-use Rattle.volume_core.proofs.txn_close.Turning.{later_turned}
+use Rattle.volume_core.proofs.txn_close.Passing.{none_begun, begun_joined}
+use Rattle.volume_core.proofs.txn_close.Turning.{begins_turned, later_turned}
 use Rattle.volume_core.specs.resting_states.Turns.{IsTurned}
 use Rattle.volume_core.specs.crash_trees.Mounting.{MountsAsOne}
 use Rattle.volume_core.specs.Volumes.{SeenVolume, volume_tree}
@@ -47,6 +48,7 @@ module _ {D : Type 0} (gives : D → Option (List (List ℕ))) (count moment : D
     sectors = refl;
     later = omega arith;
     laps = omega arith;
+    begins_none = none_begun (facts_of v.store.state);
     history = λ first trees h. h;
     fewer = λ first trees h. omega arith;
     left = λ first trees t image h far early left. inl left;
@@ -70,6 +72,7 @@ module _ {D : Type 0} (gives : D → Option (List (List ℕ))) (count moment : D
       sectors = two.sectors ∙ one.sectors;
       later = (let a = one.later in let b = two.later in omega (arith, a, b));
       laps = (let a = one.laps in let b = two.laps in omega (arith, a, b));
+      begins_none = begun_joined (facts_of old.store.state) (facts_of mid.store.state) (facts_of new.store.state) one.begins_none two.begins_none;
       history = λ first trees h. two.history first trees (one.history first trees h);
       fewer = λ first trees h. (let a = one.fewer first trees h in let b = two.fewer first trees (one.history first trees h) in omega (arith, a, b));
       left = λ first trees t image h far early left.
@@ -123,6 +126,7 @@ module _ {D : Type 0} (gives : D → Option (List (List ℕ))) (count moment : D
           sectors = turned.sectors;
           later = later_turned gives changes moment old.store.device new.store.device step result f g old.store.words new.store.words steps.kept turned.may turned.sent;
           laps = rise;
+          begins_none = begins_turned step result f g turned.facts;
           history = trees.history;
           fewer = fewer_by;
           left = λ first trees_of t image h far early left.

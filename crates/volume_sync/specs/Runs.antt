@@ -10,6 +10,7 @@ use Rattle.txn_laws.specs.Windows.{lap_behind}
 use Rattle.volume_core.specs.txn_mount.Mountable.{IsFar}
 use Rattle.volume_core.specs.txn_core.Kept.{IsKept}
 use Rattle.volume_core.specs.resting_states.Turns.{IsTurned}
+use Rattle.volume_core.specs.crash_trees.txn_close.Passing.{BeginsNoPage}
 use Rattle.volume_core.specs.crash_trees.Mounting.{MountsAsOne}
 use Rattle.volume_core.specs.Volumes.{SeenVolume, volume_tree}
 use Rattle.volume_core.specs.Histories.{HasHistory, undurable}
@@ -26,8 +27,8 @@ LeavesOneOf gives count moment changes old new =
     (first : List (List ℕ)) (trees : List Tree) (t : ℕ) (image : List (List ℕ)) → HasHistory gives count changes old first trees → IsFar old.store.state.place (lap_behind (facts_of new.store.state)) → t ≤ moment old.store.device → LeftSince (count old.store.device) (changes new.store.device) t image
     → LeftSince (count old.store.device) (changes old.store.device) t image ⊎ MountsAsOne trees (undurable old) image
 
--- Steps of a volume's store lead from this volume to that one: it has the same tree, map, table of upper-case units and streams, behind as many operations; its log lies where it did, whose laps don't
--- fall; and it has the same trees that a crash may bring back.
+-- Steps of a volume's store lead from this volume to that one: it has the same tree, map, table of upper-case units and streams, behind as many operations; its log lies where it did, of which no
+-- page is begun, and whose laps don't fall; and it has the same trees that a crash may bring back.
 pub record RunsOn {D : Type 0} (gives : D → Option (List (List ℕ))) (count moment : D → ℕ) (changes : D → Changes) (old new : SeenVolume D) : Type 0 where
   pub tree : volume_tree gives new ≡ volume_tree gives old
   pub map : new.map ≡ old.map
@@ -38,6 +39,7 @@ pub record RunsOn {D : Type 0} (gives : D → Option (List (List ℕ))) (count m
   pub sectors : count new.store.device ≡ count old.store.device
   pub later : moment old.store.device ≤ moment new.store.device
   pub laps : lap_behind (facts_of old.store.state) ≤ lap_behind (facts_of new.store.state)
+  pub begins_none : BeginsNoPage (facts_of old.store.state) (facts_of new.store.state)
   pub history : KeepsHistory gives count changes old new
   pub fewer : KeepsDurable gives count changes old new
   pub left : LeavesOneOf gives count moment changes old new

@@ -1,14 +1,15 @@
 use Rattle.std.proofs.Common.{◌≡◌, subst, ℕ, ◌+◌, List, length, sym}
 use Rattle.tree_model.specs.declared.script.Command.{Command}
 use Rattle.run_model.specs.declared.turn.Turn.{Turn}
-use Rattle.change_run.specs.Turns.{IsReplied, AllReplied, IsBlank}
+use Rattle.script_text.specs.Asking.{IsAsked, AllAsked}
+use Rattle.change_run.specs.Turns.{IsBlank}
 use Rattle.change_run.proofs.Blanks.{AreBlankTo, blank_more, all_blank}
 use Rattle.change_run.proofs.blank.blank_turns.Goals as goal
 
 pub add_turn-requires : goal.add_turn-requires
 add_turn-requires c = record {
-  replied = subst (λ (x : Command). IsReplied x.what) (sym c.command-item.is)
-      ((subst AllReplied (sym c.as_slice-command-items.ensures) c.requires.replied) c.loop-command.command-index c.command-item.result c.loop-command-test.true);
+  asked = subst (λ (x : Command). IsAsked x.what) (sym c.command-item.is)
+      ((subst AllAsked (sym c.as_slice-command-items.ensures) c.requires.asked) c.loop-command.command-index c.command-item.result c.loop-command-test.true);
 }
 
 pub loop-command-preserved : goal.loop-command-preserved

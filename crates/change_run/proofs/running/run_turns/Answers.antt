@@ -8,7 +8,7 @@ use Rattle.change_run.proofs.Steps.{none_yet, one_more}
 use Rattle.change_run.proofs.running.run_turns.Goals as goal
 
 pub loop-i-init : goal.loop-i-init
-loop-i-init g c = (none_yet g.D.Device.gives g.D.Device.sector_count g.D.Device.moment_of g.D.Device.fault_count g.D.Device.changes_of g.met.D.Device.over c.args.script.now c.args.time c.args.volume.now c.left.ensures, refl, λ j t le. refl)
+loop-i-init g c = (none_yet g.D.Device.gives g.D.Device.sector_count g.D.Device.moment_of g.D.Device.fault_count g.D.Device.changes_of g.met.D.Device.over c.args.script.now c.args.time c.args.volume.now, refl, λ j t le. refl)
 
 pub take_turn-requires : goal.take_turn-requires
 take_turn-requires g c =
@@ -19,10 +19,10 @@ take_turn-requires g c =
     let many = c.requires.blank.many in
     let few : c.loop-i.i < length c.args.script.now = omega (arith, lt, many) in
     let blank = subst (λ (t : Turn). IsBlank (get_or c.args.script.now c.loop-i.i no_command) (c.loop-i.i + 1) t) (sym here) (c.requires.blank.each c.loop-i.i no_command item few) in
-    let asked = asks c.args.script.now c.loop-i.i no_command (c.loop-i.i + 1) (get_or c.loop-i.turns c.loop-i.i item) c.requires.replied few blank in
+    let asked = asks c.args.script.now c.loop-i.i no_command (c.loop-i.i + 1) (get_or c.loop-i.turns c.loop-i.i item) c.requires.asked few blank in
     let place = blank.place in
     let early = c.requires.early in
-    record { replied = asked.0; bounds = asked.1; some = omega (arith, place); early = omega (arith, place, early, few) }
+    record { asked = asked.0; bounds = asked.1; some = omega (arith, place); early = omega (arith, place, early, few) }
 
 pub loop-i-preserved : goal.loop-i-preserved
 loop-i-preserved g c =
@@ -35,7 +35,7 @@ loop-i-preserved g c =
     let long = inv.1 in
     let inside : c.loop-i.i < length c.loop-i.turns = omega (arith, lt, long) in
     let blank = subst (λ (t : Turn). IsBlank (get_or c.args.script.now c.loop-i.i no_command) (c.loop-i.i + 1) t) (sym here) (c.requires.blank.each c.loop-i.i no_command item few) in
-    let asked = asks c.args.script.now c.loop-i.i no_command (c.loop-i.i + 1) (get_or c.loop-i.turns c.loop-i.i item) c.requires.replied few blank in
+    let asked = asks c.args.script.now c.loop-i.i no_command (c.loop-i.i + 1) (get_or c.loop-i.turns c.loop-i.i item) c.requires.asked few blank in
     let more = one_more g.D.Device.gives g.D.Device.sector_count g.D.Device.moment_of g.D.Device.fault_count g.D.Device.changes_of g.met.D.Device.over c.args.script.now c.args.time c.loop-i.i (take c.loop-i.i c.loop-i.turns) c.args.volume.now c.loop-i.volume c.take_turn.new.volume (get_or c.loop-i.turns c.loop-i.i item) c.take_turn.new.turn no_command few
     (length-take-le c.loop-i.i c.loop-i.turns (omega (arith, inside))) blank asked.0 inv.0 c.take_turn.ensures in (
       subst (λ (ts : List Turn). RunsSoFar g.D.Device.gives g.D.Device.sector_count g.D.Device.moment_of g.D.Device.fault_count g.D.Device.changes_of c.args.script.now c.args.time (c.loop-i.i + 1) ts c.args.volume.now c.take_turn.new.volume)

@@ -3,7 +3,7 @@ use Rattle.std.specs.Prelude.{◌==◌}
 use Rattle.std.proofs.lemmas.List.Elements.{All-push}
 use Rattle.std.proofs.lemmas.List.Sums.{count_by-le-length}
 use Rattle.tree_model.specs.declared.script.Command.{Command}
-use Rattle.tree_model.specs.Steps.{OnlyLooks}
+use Rattle.script_text.specs.Asking.{IsAsked}
 use Rattle.script_text.proofs.reading.add.Goals as goal
 
 pub overflow_add-number : goal.overflow_add-number
@@ -13,5 +13,5 @@ overflow_add-number c =
     let count = c.requires.counts (client - 1) place in
     omega (arith, count, ap length c.as_slice.ensures, count_by-le-length (λ (command : Command). command.client == client - 1 + 1) c.args.commands.now)
 
-pub returns-clause-looks : goal.returns-clause-looks
-returns-clause-looks c = rw c.in_ok-push.ensures.ok (All-push (λ (x : Command). OnlyLooks x.what) c.args.commands.now _ c.requires.looks c.requires.client.2)
+pub returns-clause-asked : goal.returns-clause-asked
+returns-clause-asked c = rw c.in_ok-push.ensures.ok (All-push (λ (x : Command). IsAsked x.what) c.args.commands.now _ c.requires.asked c.requires.client.2)

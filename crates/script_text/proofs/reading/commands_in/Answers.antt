@@ -15,7 +15,8 @@ returns-in_err-add_line c =
     let so_far = ap (λ (lines : List (List ℕ)). commands_from number commands lines) (sym c.in-Some.ensures.0) ∙ c.loop-line.invariant.read in
     rw (p.1, p.2) (record {
       value = line_at_fault number commands c.in-Some.line.now pieces c.in_err-add_line.field-0.0 (commands_in c.args.bytes.now) (some_piece c.in-Some.behind.now) c.in_err-add_line.ensures.err so_far;
-      looks = tt;
+      asked = tt;
+      few = tt;
     })
 
 pub loop-line-preserved : goal.loop-line-preserved
@@ -27,6 +28,7 @@ loop-line-preserved c =
     record {
       read = next_line number commands c.add_line.new.commands c.in-Some.line.now pieces (commands_in c.args.bytes.now) (some_piece c.in-Some.behind.now) c.in_ok-add_line.ensures.ok so_far;
       counts = c.in_ok-add_line.ensures.counts;
-      looks = c.in_ok-add_line.ensures.looks;
+      asked = c.in_ok-add_line.ensures.asked;
+      few = c.in_ok-add_line.ensures.few;
       lines = omega (arith, c.in-Some.ensures.1);
     }

@@ -10,7 +10,7 @@ use Rattle.found_stays.specs.txn_core.Seen.{Seen}
 use Rattle.txn_close.specs.Rests.{IsDrained}
 use Rattle.txn_close.specs.Passing.{Goes}
 use Rattle.txn_close.proofs.Passing.{goes_joined, goes_to_end, goes_from}
-use Rattle.txn_close.proofs.Turning.{fewer_at, spares_written, seal_rises, rises_at, goes_in_memory}
+use Rattle.txn_close.proofs.Turning.{fewer_at, spares_written, seal_rises, rises_at, seal_begins, goes_in_memory}
 use Rattle.txn_close.proofs.Ended.{begun_drained, begun_last, then_at_rest, at_ok, never_unmarked}
 use Rattle.txn_close.proofs.Clean.{then_ends_clean, then_leaves_clean}
 use Rattle.txn_close.proofs.ending.mark_clean.Goals as goal
@@ -42,7 +42,8 @@ returns-then-not-has_next-clause-marks g c = let none : c.has_next.result ≡ fa
   goes = goes_to_end g.D.Device.sector_count g.D.Device.moment_of g.D.Device.changes_of (facts_of c.args.store.state) c.args.store c.begin_checkpoint.new.self
       (goes_in_memory g.D.Device.gives g.D.Device.sector_count g.D.Device.moment_of g.D.Device.changes_of c.args.store c.begin_checkpoint.new.self (facts_of c.args.store.state) AfterWrite c.begin_checkpoint.ensures.device
       (fewer_at (facts_of c.args.store.state) (facts_of c.begin_checkpoint.new.self.state) _ c.begin_checkpoint.ensures.facts (record { dirty = λ b is. is; dead = λ b is. is })) (spares_written (facts_of c.args.store.state))
-      (rises_at (facts_of c.args.store.state) (facts_of c.begin_checkpoint.new.self.state) _ c.begin_checkpoint.ensures.facts (seal_rises c.args.store.state.log)) c.begin_checkpoint.ensures.step);
+      (rises_at (facts_of c.args.store.state) (facts_of c.begin_checkpoint.new.self.state) _ c.begin_checkpoint.ensures.facts (seal_rises c.args.store.state.log))
+      (seal_begins (facts_of c.args.store.state) (facts_of c.begin_checkpoint.new.self.state) _ c.begin_checkpoint.ensures.facts refl) c.begin_checkpoint.ensures.step);
 }
 
 pub returns-clause-marks : goal.returns-clause-marks
@@ -58,7 +59,8 @@ returns-clause-marks g c =
     let first = subst (λ (s : Seen _). Goes g.D.Device.sector_count g.D.Device.moment_of g.D.Device.changes_of (facts_of old.state) old s) (sym same)
     (goes_in_memory g.D.Device.gives g.D.Device.sector_count g.D.Device.moment_of g.D.Device.changes_of old c.begin_checkpoint.new.self (facts_of old.state) AfterWrite c.begin_checkpoint.ensures.device
     (fewer_at (facts_of old.state) (facts_of c.begin_checkpoint.new.self.state) _ c.begin_checkpoint.ensures.facts (record { dirty = λ b is. is; dead = λ b is. is })) (spares_written (facts_of old.state))
-    (rises_at (facts_of old.state) (facts_of c.begin_checkpoint.new.self.state) _ c.begin_checkpoint.ensures.facts (seal_rises old.state.log)) c.begin_checkpoint.ensures.step) in
+    (rises_at (facts_of old.state) (facts_of c.begin_checkpoint.new.self.state) _ c.begin_checkpoint.ensures.facts (seal_rises old.state.log))
+    (seal_begins (facts_of old.state) (facts_of c.begin_checkpoint.new.self.state) _ c.begin_checkpoint.ensures.facts refl) c.begin_checkpoint.ensures.step) in
     record {
       last = last;
       gave = search;

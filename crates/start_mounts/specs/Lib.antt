@@ -1,0 +1,2 @@
+pub use Rattle.crash_mounts.specs as crash_mounts
+pub mod Stopped

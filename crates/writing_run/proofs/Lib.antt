@@ -1,0 +1,3 @@
+mod Starting
+mod Closing
+mod Outcomes
