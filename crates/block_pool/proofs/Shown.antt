@@ -1,5 +1,5 @@
 -- What a map has by numbers, and by block.
-use Rattle.std.proofs.Common.{◌≡◌, ℕ, Bool, true, false, not, cond, List, [], ◌∷◌, map, filter, Option, Some, None, refl, sym, ap, ◌∙◌}
+use Rattle.std.proofs.Common.{◌≡◌, ℕ, Bool, true, false, not, cond, List, [], ◌∷◌, Option, Some, None, refl, sym, ap, ◌∙◌}
 use Rattle.std.specs.Map.{lookup, remove_entry}
 use Rattle.std.specs.declared.cmp.Ordering.{Ordering}
 use Rattle.std.specs.declared.cmp.Ordering.TheVariants.{Less, Equal, Greater}
@@ -8,7 +8,7 @@ use Rattle.std.specs.BTreeMap.{insert_entry}
 use Rattle.disk_model.specs.declared.block.Block.{Block}
 use Rattle.disk_model.specs.Sectors.{same_block}
 use Rattle.block_pool.specs.Numbers.{block_number, block_at, shown}
-use Rattle.block_pool.specs.Pools.{block_order, held, with_block, without_block}
+use Rattle.block_pool.specs.Pools.{held, with_block, without_block}
 use Rattle.block_pool.proofs.Ordering.{order_equal, number_at, at_number}
 
 -- a number is that of the block exactly where its block is the same

@@ -1,5 +1,5 @@
 -- What a walk over all values leaves.
-use Rattle.std.proofs.Common.{◌≡◌, ℕ, Bool, true, false, not, cond, List, [], ◌∷◌, map, filter, Option, Some, None, refl, sym, ap, subst, ◌∙◌}
+use Rattle.std.proofs.Common.{◌≡◌, ℕ, Bool, true, false, not, cond, List, [], ◌∷◌, map, filter, Option, refl, sym, ap, subst, ◌∙◌}
 use Rattle.std.specs.Prelude.{All}
 use Rattle.std.specs.Map.{lookup, keys_of}
 use Rattle.std.specs.Map.Calls.{RetainsPairs}
@@ -7,7 +7,7 @@ use Rattle.std.specs.Ordering.{is_eq, nat_cmp}
 use Rattle.std.proofs.lemmas.List.Elements.{All-cons, All-head, All-tail}
 use Rattle.std.proofs.lemmas.Map.Entries.{filter_from_retain_pairs}
 use Rattle.disk_model.specs.declared.block.Block.{Block}
-use Rattle.block_pool.specs.Numbers.{block_number, block_at, shown}
+use Rattle.block_pool.specs.Numbers.{block_at, shown}
 use Rattle.block_pool.specs.Pools.{held, kept_blocks, turned_values, passes}
 use Rattle.block_pool.proofs.Ordering.{number_at}
 use Rattle.block_pool.proofs.Shown.{found}

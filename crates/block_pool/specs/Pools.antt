@@ -1,5 +1,5 @@
 -- Values by block: a list of pairs in the order of the blocks.
-use Rattle.std.specs.Prelude.{◌≡◌, ℕ, ◌<◌, ◌≤◌, Bool, false, not, List, map, filter, Option, Some, None, if◌then◌else◌}
+use Rattle.std.specs.Prelude.{◌≡◌, ℕ, ◌<◌, ◌≤◌, Bool, true, false, not, List, map, filter, Option, Some, None, if◌then◌else◌}
 use Rattle.std.specs.Option.{option_map}
 use Rattle.std.specs.Map.{lookup}
 use Rattle.std.specs.declared.cmp.Ordering.{Ordering}
@@ -38,13 +38,14 @@ passes test None = false
 abbrev pub turned_values : {X : Type 0} → (X → X) → List (Block × X) → List (Block × X)
 turned_values turn es = map (λ e. (e.0, turn e.1)) es
 
--- no block from this number on has a value; and this block is the first that has one
-abbrev pub NoneFrom : {X : Type 0} → List (Block × X) → ℕ → Type 0
-NoneFrom es n = (c : Block) → n ≤ block_number c → held es c ≡ None
+-- no block from this number on has a value that passes; and this block is the first that has one
+abbrev pub NoneFrom : {X : Type 0} → (X → Bool) → List (Block × X) → ℕ → Type 0
+NoneFrom test es n = (c : Block) → n ≤ block_number c → passes test (held es c) ≡ false
 
-pub record IsNextFrom {X : Type 0} (es : List (Block × X)) (n : ℕ) (next : Block) : Type 0 where
+pub record IsNextFrom {X : Type 0} (test : X → Bool) (es : List (Block × X)) (n : ℕ) (next : Block) : Type 0 where
   pub from : n ≤ block_number next
-  pub none : (c : Block) → n ≤ block_number c → block_number c < block_number next → held es c ≡ None
+  pub passed : passes test (held es next) ≡ true
+  pub none : (c : Block) → n ≤ block_number c → block_number c < block_number next → passes test (held es c) ≡ false
 
 -- What a look-up gives after each of these.
 pub record LooksUp (X : Type 0) : Type 0 where

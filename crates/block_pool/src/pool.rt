@@ -102,18 +102,20 @@ impl<T> Pool<T> {
         }
     }
 
-    /// The first block behind this one that has a value, or the first of all. Logarithmic in their
-    /// number.
-    pub fn next_block(&self, after: Option<Block>) -> Option<Block>
-        ensures next { IfSome result (IsNextFrom self.now (number_after after)) }
+    /// The first block behind this one whose value passes, or the first of all. It takes no memory,
+    /// and time linear in the values that it passes over, and logarithmic in their number.
+    pub fn next_where<P: Tests<T>>(&self, after: Option<Block>, test: &P) -> Option<Block>
+        ensures next { IfSome result (IsNextFrom (P.told test.now) self.now (number_after after)) }
         ensures small { IfSome result (λ b. block_number b < 3 * 2 ^ 64) }
-        ensures none { IfNone result (NoneFrom self.now (number_after after)) }
+        ensures none { IfNone result (NoneFrom (P.told test.now) self.now (number_after after)) }
     {
         let number = number_after(after);
-        match self.values.range(number..).next() {
-            Some((found, _)) => Some(block_at(*found)),
-            None => None,
+        for (found, value) in self.values.range(number..) {
+            if test.passes(value) {
+                return Some(block_at(*found));
+            }
         }
+        None
     }
 
     /// Changes each value. It takes no memory, and time linear in their number.

@@ -14,5 +14,6 @@ pub use kept::KeptBody;
 pub use mark::{changed, ousted};
 pub use syncing::settle;
 pub use txn_model::{
-    Act, Block, BlockKind, Change, Device, Entry, LogArea, LogPlace, Mark, Pool, Turns, put_bytes,
+    Act, Block, BlockKind, Change, Device, Entry, LogArea, LogPlace, Mark, Pool, Tests, Turns,
+    put_bytes,
 };

@@ -9,30 +9,69 @@ use Rattle.device_blocks.proofs.disk_model.Frames.{same_block-is}
 use Rattle.txn_state.proofs.txn_log.Sharing.{same_self}
 use Rattle.txn_laws.proofs.store_model.Told.{true≢false}
 use Rattle.txn_laws.specs.block_pool.Numbers.{block_number, block_at}
-use Rattle.txn_laws.specs.block_pool.Pools.{held, IsNextFrom, NoneFrom}
+use Rattle.txn_laws.specs.block_pool.Pools.{held, passes, IsNextFrom, NoneFrom}
 use Rattle.txn_laws.proofs.block_pool.Ordering.{at_number}
 use Rattle.txn_state.specs.store_pools.Pools.{marks_of}
 use Rattle.txn_laws.specs.txn_model.declared.mark.Mark.{Mark}
 use Rattle.txn_laws.specs.txn_model.Values.{no_mark, StoreFacts}
 use Rattle.txn_laws.specs.txn_model.Calls.{is_ready}
 use Rattle.txn_laws.specs.txn_model.Told.{is_left}
-use Rattle.txn_core.specs.Tells.{TellsLeft, IsLowestFrom, IsLowest}
+use Rattle.txn_core.specs.Tells.{is_durable, TellsLeft, IsLowestFrom, IsLowest}
 
 -- blocks with one number are the same
 one_number : (b c : Block) → block_number b ≡ block_number c → b ≡ c
 one_number b c e = sym (at_number b) ∙ ap block_at e ∙ at_number c
 
--- ---- blocks without a mark
+-- ---- blocks whose marks don't pass
 
-unmarked : (es : List (Block × Mark)) (c : Block) → held es c ≡ None → marks_of es c ≡ no_mark
-unmarked es c none = ap (λ (o : Option Mark). unwrap_or o no_mark) none
+-- a mark that passes
+marked : (test : Mark → Bool) (o : Option Mark) → passes test o ≡ true → test (unwrap_or o no_mark) ≡ true
+marked test (Some m) is = is
+marked test None is = absurd (true≢false (sym is))
 
--- a block that is ready has a mark
-pub ready_held : (f : StoreFacts) (es : List (Block × Mark)) (c : Block) → f.mark ≡ marks_of es → held es c ≡ None → is_ready f c ≡ false
-ready_held f es c marks none = ap (λ (m : Mark). m.dirty && not (is_some (f.before c)) && nat_le m.commit f.durable && nat_le m.until f.log.synced) (ap (λ (g : Block → Mark). g c) marks ∙ unmarked es c none)
+unmarked : (test : Mark → Bool) → test no_mark ≡ false → (o : Option Mark) → passes test o ≡ false → test (unwrap_or o no_mark) ≡ false
+unmarked test clean (Some m) isnt = isnt
+unmarked test clean None isnt = clean
 
-pub left_held : (es : List (Block × Mark)) (c : Block) → held es c ≡ None → is_left (marks_of es c) ≡ false
-left_held es c none = ap is_left (unmarked es c none)
+-- a block that is ready has a mark of which the changes are durable
+four : (t u v w : Bool) → (t && v && w) ≡ false → (t && u && v && w) ≡ false
+four false u v w e = refl
+four true false v w e = refl
+four true true v w e = e
+
+all_four : (t u v w : Bool) → (t && v && w) ≡ true → u ≡ true → (t && u && v && w) ≡ true
+all_four t true v w e is = four_on t v w ∙ e
+  where
+    four_on : (t v w : Bool) → (t && true && v && w) ≡ (t && v && w)
+    four_on true v w = refl
+    four_on false v w = refl
+all_four t false v w e is = absurd (true≢false (sym is))
+
+module _ (f : StoreFacts) (es : List (Block × Mark)) (c : Block) (marks : f.mark ≡ marks_of es) where
+  mark_is : f.mark c ≡ marks_of es c
+  mark_is = ap (λ (g : Block → Mark). g c) marks
+
+  pub ready_held : passes (is_durable f.durable f.log.synced) (held es c) ≡ false → is_ready f c ≡ false
+  ready_held isnt = four (f.mark c).dirty (not (is_some (f.before c))) (nat_le (f.mark c).commit f.durable) (nat_le (f.mark c).until f.log.synced) (ap (is_durable f.durable f.log.synced) mark_is ∙ unmarked (is_durable f.durable f.log.synced) refl (held es c) isnt)
+
+  pub held_ready : passes (is_durable f.durable f.log.synced) (held es c) ≡ true → is_some (f.before c) ≡ false → is_ready f c ≡ true
+  held_ready is unchanged =
+      all_four (f.mark c).dirty (not (is_some (f.before c))) (nat_le (f.mark c).commit f.durable) (nat_le (f.mark c).until f.log.synced)
+      (ap (is_durable f.durable f.log.synced) mark_is ∙ marked (is_durable f.durable f.log.synced) (held es c) is) (ap not unchanged)
+
+  changed_not_ready : (t u v w : Bool) → u ≡ true → (t && not u && v && w) ≡ false
+  changed_not_ready false u v w e = refl
+  changed_not_ready true true v w e = refl
+  changed_not_ready true false v w e = absurd (true≢false (sym e))
+
+  pub changed_isnt : is_some (f.before c) ≡ true → is_ready f c ≡ false
+  changed_isnt changed = changed_not_ready (f.mark c).dirty (is_some (f.before c)) (nat_le (f.mark c).commit f.durable) (nat_le (f.mark c).until f.log.synced) changed
+
+pub left_held : (es : List (Block × Mark)) (c : Block) → passes is_left (held es c) ≡ false → is_left (marks_of es c) ≡ false
+left_held es c isnt = unmarked is_left refl (held es c) isnt
+
+pub held_left : (es : List (Block × Mark)) (c : Block) → passes is_left (held es c) ≡ true → is_left (marks_of es c) ≡ true
+held_left es c is = marked is_left (held es c) is
 
 -- ---- the lowest block that is ready
 
@@ -43,17 +82,17 @@ NoneBetween ready n m = (n ≤ m) × ((c : Block) → ready c ≡ true → n ≤
 pub none_yet : (ready : Block → Bool) (n : ℕ) → NoneBetween ready n n
 none_yet ready n = (omega arith, λ c is le. le)
 
-module _ (ready : Block → Bool) (es : List (Block × Mark)) (n m : ℕ) (bare : (c : Block) → held es c ≡ None → ready c ≡ false) (so_far : NoneBetween ready n m) where
-  below : (b c : Block) → IsNextFrom es m b → ready c ≡ true → n ≤ block_number c → block_number b ≤ block_number c
+module _ (test : Mark → Bool) (ready : Block → Bool) (es : List (Block × Mark)) (n m : ℕ) (bare : (c : Block) → passes test (held es c) ≡ false → ready c ≡ false) (so_far : NoneBetween ready n m) where
+  below : (b c : Block) → IsNextFrom test es m b → ready c ≡ true → n ≤ block_number c → block_number b ≤ block_number c
   below b c next is le = elim (cases_lt (block_number c) (block_number b)) [
     | inl lt ↦ absurd (true≢false (sym is ∙ bare c (next.none c (so_far.1 c is le) lt)))
     | inr from ↦ from
   ]
 
-  pub found_lowest : (b : Block) → IsNextFrom es m b → ready b ≡ true → IsLowestFrom ready n (Some b)
+  pub found_lowest : (b : Block) → IsNextFrom test es m b → ready b ≡ true → IsLowestFrom ready n (Some b)
   found_lowest b next is = (let first = so_far.0 in let from = next.from in omega (arith, first, from), is, λ c le ready_c. below b c next ready_c le)
 
-  pub passed_over : (b : Block) → IsNextFrom es m b → ready b ≡ false → NoneBetween ready n (block_number b + 1)
+  pub passed_over : (b : Block) → IsNextFrom test es m b → ready b ≡ false → NoneBetween ready n (block_number b + 1)
   passed_over b next not_ready = (let first = so_far.0 in let from = next.from in omega (arith, first, from), behind)
     where
       behind : (c : Block) → ready c ≡ true → n ≤ block_number c → block_number b + 1 ≤ block_number c
@@ -65,15 +104,15 @@ module _ (ready : Block → Bool) (es : List (Block × Mark)) (n m : ℕ) (bare 
             absurd (true≢false (sym is ∙ ap ready same ∙ not_ready)))
       ]
 
-  pub none_found : NoneFrom es m → IsLowestFrom ready n None
+  pub none_found : NoneFrom test es m → IsLowestFrom ready n None
   none_found none c le = elim (cases_Bool (ready c)) [
     | inl is ↦ absurd (true≢false (sym is ∙ bare c (none c (so_far.1 c is le))))
     | inr not_ready ↦ not_ready
   ]
 
 -- the walk's measure falls
-pub walk_falls : (es : List (Block × Mark)) (m limit : ℕ) (b : Block) → IsNextFrom es m b → block_number b < limit → limit - (block_number b + 1) < limit - m
-walk_falls es m limit b next lt = let from = next.from in omega (arith, from, lt)
+pub walk_falls : (test : Mark → Bool) (es : List (Block × Mark)) (m limit : ℕ) (b : Block) → IsNextFrom test es m b → block_number b < limit → limit - (block_number b + 1) < limit - m
+walk_falls test es m limit b next lt = let from = next.from in omega (arith, from, lt)
 
 -- ---- from one lowest block to the next
 
@@ -126,7 +165,7 @@ and_left_none true u v e = absurd (true≢false e)
 and_left_none false u v e = refl
 
 -- a number that isn't the next one's is counted behind that exactly where it was before, or isn't left
-same_below : (mark : Block → Mark) (es : List (Block × Mark)) (n : ℕ) (b c : Block) → ((x : Block) → held es x ≡ None → is_left (mark x) ≡ false) → IsNextFrom es n b → same_block c b ≡ false
+same_below : (mark : Block → Mark) (es : List (Block × Mark)) (n : ℕ) (b c : Block) → ((x : Block) → passes is_left (held es x) ≡ false → is_left (mark x) ≡ false) → IsNextFrom is_left es n b → same_block c b ≡ false
     → ◌≡◌ {A = ℕ} (cond (is_left (mark c) && nat_lt (block_number c) (block_number b + 1)) 1 0) (cond (is_left (mark c) && nat_lt (block_number c) n) 1 0)
 same_below mark es n b c bare next apart = elim (cases_lt (block_number c) n) [
   | inl low ↦ ap (λ (t : Bool). cond {A = ℕ} (is_left (mark c) && t) 1 0) (lt-ltb (block_number c) (block_number b + 1) (let from = next.from in omega (arith, low, from)) ∙ sym (lt-ltb (block_number c) n low))
@@ -144,7 +183,7 @@ same_below mark es n b c bare next apart = elim (cases_lt (block_number c) n) [
           absurd (true≢false (sym (same_self b) ∙ ap (λ (x : Block). same_block x b) (sym same) ∙ apart)))
     ]
 
-module _ (mark : Block → Mark) (es : List (Block × Mark)) (n count : ℕ) (b : Block) (bare : (x : Block) → held es x ≡ None → is_left (mark x) ≡ false) (next : IsNextFrom es n b) (so_far : LeftBelow mark n count) where
+module _ (mark : Block → Mark) (es : List (Block × Mark)) (n count : ℕ) (b : Block) (bare : (x : Block) → passes is_left (held es x) ≡ false → is_left (mark x) ≡ false) (next : IsNextFrom is_left es n b) (so_far : LeftBelow mark n count) where
   -- the next one is left
   pub one_more : is_left (mark b) ≡ true → LeftBelow mark (block_number b + 1) (min (count + 1) (2 ^ 64 - 1))
   one_more is = record {
@@ -170,15 +209,7 @@ module _ (mark : Block → Mark) (es : List (Block × Mark)) (n count : ℕ) (b 
           let same = same_below mark es n b c bare next e in
           omega (arith, old, none, same)
 
-  -- it isn't
-  pub no_more : is_left (mark b) ≡ false → LeftBelow mark (block_number b + 1) count
-  no_more is = record { blocks = so_far.blocks; each = λ c. so_far.each c ∙ sym (by_same c (same_block c b) refl); counted = so_far.counted }
-    where
-      by_same : (c : Block) (t : Bool) → same_block c b ≡ t → ◌≡◌ {A = ℕ} (cond (is_left (mark c) && nat_lt (block_number c) (block_number b + 1)) 1 0) (cond (is_left (mark c) && nat_lt (block_number c) n) 1 0)
-      by_same c true e = and_left_none (is_left (mark c)) (nat_lt (block_number c) (block_number b + 1)) (nat_lt (block_number c) n) (ap (λ (x : Block). is_left (mark x)) (same_block-is c b e) ∙ is)
-      by_same c false e = same_below mark es n b c bare next e
-
-pub all_counted : (mark : Block → Mark) (es : List (Block × Mark)) (n count : ℕ) → ((x : Block) → held es x ≡ None → is_left (mark x) ≡ false) → NoneFrom es n → LeftBelow mark n count → TellsLeft mark count
+pub all_counted : (mark : Block → Mark) (es : List (Block × Mark)) (n count : ℕ) → ((x : Block) → passes is_left (held es x) ≡ false → is_left (mark x) ≡ false) → NoneFrom is_left es n → LeftBelow mark n count → TellsLeft mark count
 all_counted mark es n count bare none so_far = record { blocks = so_far.blocks; each = λ b. so_far.each b ∙ at b; counted = so_far.counted }
   where
     and_yes : (t : Bool) → ◌≡◌ {A = ℕ} (cond (t && true) 1 0) (cond t 1 0)

@@ -1,5 +1,5 @@
 -- What a store keeps beside its state, so that it can tell of itself without a walk.
-use Rattle.std.specs.Prelude.{◌≡◌, ℕ, ◌-◌, ◌^◌, ◌<◌, ◌≤◌, Bool, true, false, min, if◌then◌else◌, List, length, count_by, Option, Some, None, IfSome, is_some}
+use Rattle.std.specs.Prelude.{◌≡◌, ℕ, ◌-◌, ◌^◌, ◌<◌, ◌≤◌, ◌&&◌, nat_le, Bool, true, false, min, if◌then◌else◌, List, length, count_by, Option, Some, None, IfSome, is_some}
 use Rattle.device_blocks.specs.disk_model.declared.block.Block.{Block}
 use Rattle.device_blocks.specs.disk_model.Sectors.{same_block}
 use Rattle.txn_laws.specs.log_page.Places.{sequence_bits}
@@ -21,6 +21,10 @@ pub record TellsLeft (mark : Block → Mark) (count : ℕ) : Type 0 where
   pub blocks : List Block
   pub each : (b : Block) → count_by (same_block b) blocks ≡ (if is_left (mark b) then 1 else 0)
   pub counted : count ≡ min (length blocks) (2 ^ 64 - 1)
+
+-- the changes of a block with this mark are durable where these commits and pages are, and it isn't written out
+abbrev pub is_durable : ℕ → ℕ → Mark → Bool
+is_durable commits pages m = m.dirty && nat_le m.commit commits && nat_le m.until pages
 
 -- the lowest of the blocks that pass from this number on, if any
 abbrev pub IsLowestFrom : (Block → Bool) → ℕ → Option Block → Type 0

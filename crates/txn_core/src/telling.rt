@@ -9,7 +9,7 @@ ghost use Rattle.txn_state.specs.States.{facts_of};
 ghost use Rattle.txn_core.specs.Tells.{TellsLeft, IsLowestFrom, IsLowest, StaysLowest};
 
 use device_blocks::Block;
-use txn_state::{Mark, StoreState};
+use txn_state::{Mark, StoreState, Tests};
 
 // What a store tells of its blocks, and the LSN of the place that a checkpoint noted.
 #[derive(Clone, Copy, Debug, Drop)]
@@ -24,15 +24,35 @@ pub(crate) struct Telling {
     pub(crate) front: u64,
 }
 
+// Its changes are durable, where these commits and pages of the log are, and it isn't written out.
+#[derive(Clone, Copy, Drop)]
+struct Durable {
+    commits: u64,
+    pages: u64,
+}
+
+impl Tests<Mark> for Durable {
+    ghost use Rattle.txn_core.specs.Tells.{is_durable};
+
+    ghost told = { λ s m. is_durable s.commits s.pages m };
+
+    fn passes(&self, mark: &Mark) -> bool {
+        mark.dirty && mark.commit <= self.commits && mark.until <= self.pages
+    }
+}
+
 // The lowest block behind this one that is ready, or the lowest of all. It takes no memory, and
 // time linear in the marks that it passes over.
 fn lowest_after(state: &StoreState, after: Option<Block>) -> Option<Block>
     ensures { IsLowestFrom (is_ready (facts_of state.now)) (number_after after) result }
 {
-    state.known();
+    let durable = Durable {
+        commits: state.durable(),
+        pages: state.log().durable_pages(),
+    };
     let mut behind = after;
-    while let Some(block) = state.marks().next_block(behind) {
-        if state.is_ready(block) {
+    while let Some(block) = state.marks().next_where(behind, &durable) {
+        if !state.is_changed(block) {
             return Some(block);
         }
         behind = Some(block);
@@ -40,23 +60,29 @@ fn lowest_after(state: &StoreState, after: Option<Block>) -> Option<Block>
     None
 }
 
-// Whether a checkpoint waits for a block with this mark.
-fn is_left(mark: &Mark) -> bool
-    ensures { result ≡ is_left mark.now }
-{
-    mark.owed || mark.due
+// A checkpoint waits for it.
+#[derive(Clone, Copy, Drop)]
+struct Left;
+
+impl Tests<Mark> for Left {
+    ghost use Rattle.txn_laws.specs.txn_model.Told.{is_left};
+
+    ghost told = { λ s m. is_left m };
+
+    fn passes(&self, mark: &Mark) -> bool {
+        mark.owed || mark.due
+    }
 }
 
-// How many blocks a checkpoint waits for. It takes no memory, and time near-linear in the marks.
+// How many blocks a checkpoint waits for. It takes no memory, and time linear in the marks, and
+// logarithmic in them for each such block.
 fn count_left(state: &StoreState) -> u64
     ensures { TellsLeft (facts_of state.now).mark result }
 {
     let mut left = 0u64;
     let mut behind = None;
-    while let Some(block) = state.marks().next_block(behind) {
-        if is_left(&state.mark(block)) {
-            left = left.saturating_add(1);
-        }
+    while let Some(block) = state.marks().next_where(behind, &Left) {
+        left = left.saturating_add(1);
         behind = Some(block);
     }
     left

@@ -18,6 +18,6 @@ pub use counting::pages_for;
 pub use laws::pages_are_enough;
 pub use rivals::{rival, rival_count};
 pub use store_pools::{
-    Act, Block, Device, KeptBody, LogArea, LogPlace, Mark, Pool, Turns, changed, mark_commits,
-    ousted, put_bytes, restore, settle,
+    Act, Block, Device, KeptBody, LogArea, LogPlace, Mark, Pool, Tests, Turns, changed,
+    mark_commits, ousted, put_bytes, restore, settle,
 };

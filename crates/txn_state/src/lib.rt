@@ -18,4 +18,4 @@ mod starting;
 mod state;
 
 pub use state::StoreState;
-pub use txn_log::{KeptBody, Mark, pages_are_enough, pages_for, rival, rival_count};
+pub use txn_log::{KeptBody, Mark, Tests, pages_are_enough, pages_for, rival, rival_count};
