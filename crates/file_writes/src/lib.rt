@@ -17,4 +17,5 @@ pub use block_view::View;
 pub use fault::WriteFault;
 pub use file_puts::{ClusterSize, FileRec, FreeBits, Node, Op, VolumeStreams};
 pub use plan_draft::Draft;
+pub use puts::{put_record, put_times};
 pub use writing::write_file;

@@ -30,7 +30,7 @@ use Rattle.ntfs_host.specs.Text.{refusal_line}
 -- ---- what refuses a run
 
 -- What refuses a run on a device of so many sectors: what refuses the mount; or that the mounted volume can't be changed yet, since the bits of its clusters don't all lie in clusters (or a block of its log would stay
--- torn), or since its log isn't just its pages.
+-- torn), or since whole pages of its log can't be written where they lie.
 abbrev pub RefusesRun : ℕ → Option (List (List ℕ)) → Refusal → Type 0
 RefusesRun count gives refusal =
     IfSome (known_mount count gives) (λ m. m ≡ Err refusal) ⊎ (((refusal ≡ Unbuilt 8) × IfSome gives UnfitOn) ⊎ ((refusal ≡ Unbuilt 9) × IfSome gives (UnknownOn count)))

@@ -1,7 +1,5 @@
 //! The top call.
-ghost use Rattle.std.specs.Prelude.{◌≡◌, ◌⊎◌, ℕ, ◌^◌, ◌<◌, None, IfOk};
-ghost use Rattle.std.specs.Io.KnownBytes.{Appends};
-ghost use Rattle.host_base.specs.Causes.{AppendsPart};
+ghost use Rattle.std.specs.Prelude.{◌≡◌, ℕ, ◌^◌, ◌<◌, None, IfOk};
 ghost use Rattle.ntfs_host.specs.declared.command.Asked.{Asked as the_asked};
 ghost use Rattle.ntfs_host.specs.declared.command.Asked.TheVariants.{Quietly, Run};
 ghost use Rattle.ntfs_host.specs.Answers.{known_answer};
@@ -11,9 +9,9 @@ ghost use Rattle.ntfs_host.specs.Words.{asked_by, asked_in};
 use crate::answers::answer;
 use crate::command::{Asked, Quiet};
 use crate::output::write_refusal;
-use crate::printing::write_lines;
+use crate::printing::print_text;
 use crate::script_run::run_command;
-use crate::status::{DEVICE_FAULT, DONE, MEMORY, REFUSED, SINK_FAULT, USAGE, status_of};
+use crate::status::{DEVICE_FAULT, MEMORY, REFUSED, SINK_FAULT, USAGE, status_of};
 use command_line::{Command, LineFault, read_line};
 use host_base::{Gate, Sink, Source, write_all};
 use sector_device::Device;
@@ -41,19 +39,6 @@ fn leaves_uncalled<D: Device>(device: &D)
     ensures { (asked : the_asked) → LeavesDevice asked 6 D.sector_count D.gives D.moment_of D.changes_of device.now device.now }
 {
     let _ = device;
-}
-
-// Writes the text, each of its lines by itself.
-fn print_text<K: Sink>(sink: &mut K, text: &str) -> u8
-    ensures status { (result ≡ 0) ⊎ (result ≡ 7) }
-    ensures done { result ≡ 0 → Appends (K.taken sink.old) (K.taken sink.new) text.now }
-    ensures part { result ≡ 7 → AppendsPart (K.taken sink.old) (K.taken sink.new) text.now }
-    ensures causes { HasCauses 7 result (K.faults sink.old) (K.faults sink.new) }
-{
-    match write_lines(sink, text.as_bytes()) {
-        Ok(()) => DONE,
-        Err(_) => SINK_FAULT,
-    }
 }
 
 // Reads the device and prints the answer.
@@ -220,16 +205,16 @@ fn do_asked<R: Threads + Wait + Sync, S: Source, K: Sink, D: Device + Send, G: G
 /// no commands yet. `gate.pass` is called before each command of a script. The status is that of
 /// `Outcome`.
 ///
-/// A run mounts the volume, lets the script's commands change it, and closes it; where they only look
-/// the device is only read. It takes volumes
-/// with eight sectors a cluster: other sectors a cluster are refused by the boot sector's field at 13,
-/// in this field's place. It refuses what a check refuses, and between the version and the rules a
-/// volume with a change journal, and one whose log is small; a log of another program that asks for
-/// what no mount may write is refused with the log; and at the end a volume that can't be changed yet
-/// (`refused 17 Unbuilt 8` and `9`). It reads what a check reads, once more the first sector and the
-/// log, and the table of upper-case units, by which names are in order; it writes out what the log
-/// recovers; a command reads the index blocks on its path, and the sectors of the bytes that it asks
-/// for, and what it changes is logged, and written out by the end.
+/// A run mounts the volume, lets the script's commands change it, and closes it; where they only
+/// look the device is only read. It takes volumes with eight sectors a cluster: other sectors a
+/// cluster are refused by the boot sector's field at 13, in this field's place. It refuses what a
+/// check refuses, and between the version and the rules a volume with a change journal, and one
+/// whose log is small; a log of another program that asks for what no mount may write is refused
+/// with the log; and at the end a volume that can't be changed yet (`refused 17 Unbuilt 8` and
+/// `9`). It reads what a check reads, once more the first sector and the log, and the table of
+/// upper-case units, by which names are in order; it writes out what the log recovers; a command
+/// reads the index blocks on its path, and the sectors of the bytes that it asks for, and what it
+/// changes is logged, and written out by the end.
 ///
 /// Its clauses, whose words stand in `specs/Outcomes.antt` and, for a run, in `specs/Runs.antt`, go by
 /// what the words ask for. They say what the sink took, and of a run also what a crash leaves; that

@@ -1,7 +1,5 @@
 //! The run of a script that only looks at a volume.
-ghost use Rattle.std.specs.Prelude.{◌≡◌, ◌⊎◌, None, IfOk, IfSome, string_bytes};
-ghost use Rattle.std.specs.Io.KnownBytes.{Appends};
-ghost use Rattle.host_base.specs.Causes.{AppendsPart};
+ghost use Rattle.std.specs.Prelude.{◌≡◌, None, IfOk, IfSome, string_bytes};
 ghost use Rattle.tree_model.specs.Steps.{AllLook};
 ghost use Rattle.volume_run.specs.Prints.{IsPrintedRun, RunsAs, counted_by};
 ghost use Rattle.ntfs_host.specs.Answers.{known_mount, answer_status};
@@ -9,8 +7,8 @@ ghost use Rattle.ntfs_host.specs.Outcomes.{HasCauses, HasRunCauses};
 ghost use Rattle.ntfs_host.specs.Runs.{AnswersLooks, LooksAt};
 
 use crate::output::write_refusal;
-use crate::printing::write_lines;
-use crate::status::{DEVICE_FAULT, DONE, MEMORY, REFUSED, SINK_FAULT, status_of};
+use crate::printing::print_text;
+use crate::status::{DEVICE_FAULT, MEMORY, REFUSED, status_of};
 use host_base::{Gate, Sink};
 use sector_device::Device;
 use std::alloc::Global;
@@ -38,19 +36,6 @@ fn text_of_run<R: Threads + Wait, D: Device, G: Gate>(
     run_text(rt, alloc, script, time, device, gate)
 }
 
-// Writes the text of a run, a line at a time.
-fn print_run<K: Sink>(sink: &mut K, text: &str) -> u8
-    ensures status { (result ≡ 0) ⊎ (result ≡ 7) }
-    ensures done { result ≡ 0 → Appends (K.taken sink.old) (K.taken sink.new) text.now }
-    ensures part { result ≡ 7 → AppendsPart (K.taken sink.old) (K.taken sink.new) text.now }
-    ensures causes { HasCauses 7 result (K.faults sink.old) (K.faults sink.new) }
-{
-    match write_lines(sink, text.as_bytes()) {
-        Ok(()) => DONE,
-        Err(_) => SINK_FAULT,
-    }
-}
-
 /// Mounts the volume of the device to look at it, and runs a script there whose commands only look;
 /// its text, or the line of what refuses the volume, goes to the sink. The device is only read.
 pub fn look_at<R: Threads + Wait, K: Sink, D: Device, G: Gate>(
@@ -70,7 +55,7 @@ pub fn look_at<R: Threads + Wait, K: Sink, D: Device, G: Gate>(
     ensures sectors { D.sector_count device.new ≡ D.sector_count device.old }
 {
     match text_of_run(rt, alloc, script, time, device, gate) {
-        Ok(text) => print_run(sink, &text),
+        Ok(text) => print_text(sink, &text),
         Err(MountFault::Refused(refusal)) => status_of(
             write_refusal(alloc, sink, refusal),
             REFUSED,

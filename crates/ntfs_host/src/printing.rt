@@ -1,8 +1,10 @@
 //! Text that goes to a sink line by line.
-ghost use Rattle.std.specs.Prelude.{◌≡◌, ◌<◌, ◌≤◌, OnOk, OnErr, length};
+ghost use Rattle.std.specs.Prelude.{◌≡◌, ◌⊎◌, ◌<◌, ◌≤◌, OnOk, OnErr, length};
 ghost use Rattle.std.specs.Io.KnownBytes.{Appends};
 ghost use Rattle.host_base.specs.Causes.{HasCause, AppendsPart};
+ghost use Rattle.ntfs_host.specs.Outcomes.{HasCauses};
 
+use crate::status::{DONE, SINK_FAULT};
 use host_base::{Failed, Sink, write_all};
 
 // How many bytes the first line has, its end among them; all, where no line ends.
@@ -31,4 +33,17 @@ pub fn write_lines<K: Sink>(sink: &mut K, text: &[u8]) -> Result<(), Failed>
         }
     }
     Ok(())
+}
+
+/// Writes a text, each of its lines by itself, and gives the status.
+pub fn print_text<K: Sink>(sink: &mut K, text: &str) -> u8
+    ensures status { (result ≡ 0) ⊎ (result ≡ 7) }
+    ensures done { result ≡ 0 → Appends (K.taken sink.old) (K.taken sink.new) text.now }
+    ensures part { result ≡ 7 → AppendsPart (K.taken sink.old) (K.taken sink.new) text.now }
+    ensures causes { HasCauses 7 result (K.faults sink.old) (K.faults sink.new) }
+{
+    match write_lines(sink, text.as_bytes()) {
+        Ok(()) => DONE,
+        Err(_) => SINK_FAULT,
+    }
 }

@@ -1,5 +1,5 @@
 //! The names of all files, and the way up from them.
-ghost use Rattle.std.specs.Prelude.{◌≡◌, ◌++◌, ◌&&◌, ◌==◌, not, nat_lt, IfOk, OnOk, length, map};
+ghost use Rattle.std.specs.Prelude.{◌≡◌, ◌<◌, ◌++◌, ◌&&◌, ◌==◌, not, nat_lt, IfOk, OnOk, length, map, slice_set};
 ghost use Rattle.std.specs.List.{range_with_len, list_any};
 ghost use Rattle.state_model.specs.file_tree.declared.link.Link.{Link as the_link};
 ghost use Rattle.state_model.specs.file_tree.Walks.{root, first_user_record};
@@ -105,6 +105,22 @@ impl Ways {
             in_system,
         })
     }
+
+    /// Puts what the way up from the file with this number says in the place of what it said: the
+    /// directory of its first name, whether the way from there reaches the root, and whether a
+    /// directory of the volume itself stands on it. It takes constant time.
+    pub fn put(&mut self, number: usize, parent: Option<u64>, rooted: bool, in_system: bool)
+        requires parents { number < length self.old.parents.items }
+        requires rooted { number < length self.old.rooted.items }
+        requires in_system { number < length self.old.in_system.items }
+        ensures parents { self.new.parents.items ≡ slice_set self.old.parents.items number parent }
+        ensures rooted { self.new.rooted.items ≡ slice_set self.old.rooted.items number rooted }
+        ensures in_system { self.new.in_system.items ≡ slice_set self.old.in_system.items number in_system }
+    {
+        self.parents[number] = parent;
+        self.rooted[number] = rooted;
+        self.in_system[number] = in_system;
+    }
 }
 
 /// Records, with what the way up from each says.
@@ -158,9 +174,10 @@ impl<'a> Climber<'a> {
         }
     }
 
-    // Whether on the way up stands a directory of the volume itself, other than the root.
+    /// Whether on the way up from the directory with this number, itself among it, stands a
+    /// directory of the volume itself, other than the root. It takes constant time.
     #[tactic(auto)]
-    fn is_in_system(&self, directory: u64) -> bool
+    pub fn is_in_system(&self, directory: u64) -> bool
         ensures { result ≡ is_in_system (table_in self.now.records.now) (length self.now.records.now) directory }
     {
         match self.ways.in_system.get(directory as usize) {
