@@ -1,7 +1,7 @@
 -- The names of records with one file more.
-use Rattle.std.proofs.Common.{◌≡◌, ◌≢◌, ℕ, zero, suc, ◌+◌, ◌<◌, ◌≤◌, ◌||◌, ◌&&◌, eqb, not, Bool, true, false, cond, List, [], ◌∷◌, length, map, set, get_or, Option, Some, None, refl, sym, ap, subst, ◌∙◌, inl, inr, arith}
+use Rattle.std.proofs.Common.{◌≡◌, ◌≢◌, ℕ, zero, suc, ◌+◌, ◌-◌, ◌^◌, ◌<◌, ◌||◌, ◌&&◌, eqb, not, Bool, true, false, cond, List, [], ◌∷◌, length, map, set, get_or, Option, Some, None, refl, sym, ap, subst, ◌∙◌, inl, inr, arith}
 use Rattle.std.specs.Prelude.{nat_lt, ◌==◌, count_by, unwrap_or}
-use Rattle.std.specs.List.{range_with_len, AllByRecursion}
+use Rattle.std.specs.List.{range_with_len}
 use Rattle.std.proofs.Math.ListN.{length-set}
 use Rattle.std.proofs.lemmas.Bool.{cases_lt, cases_eq, eq-eqb, ne_eqb, lt-ltb, le-ltb}
 use Rattle.std.proofs.lemmas.List.{get_or-set_same, get_or-set_other, same_lists, get_or_past}
@@ -12,19 +12,19 @@ use Rattle.host_base.specs.FileRefs.{same_reference}
 use Rattle.tree_laws.specs.record_model.Records.{Record}
 use Rattle.tree_laws.specs.file_tree.declared.link.Link.{Link}
 use Rattle.tree_laws.specs.file_tree.Walks.{root, first_user_record, at_some}
-use Rattle.tree_laws.specs.state_model.Files.{Table, only_base, file_at, file_links, links_at, record_links, reference, is_base_record}
+use Rattle.tree_laws.specs.state_model.Files.{Table, only_base, file_at, file_links, links_at, reference}
 use Rattle.tree_laws.specs.state_model.Loads.{table_in}
-use Rattle.tree_laws.specs.state_model.Rules.{count_in, names_in}
+use Rattle.tree_laws.specs.state_model.Rules.{count_in}
 use Rattle.tree_laws.specs.state_model.Trees.{first_parent, parent_at, leads, is_in_system}
 use Rattle.record_rules.specs.Counts.{count_for, count_at, names_for, names_at, has_reference, has_sequence}
 use Rattle.record_rules.specs.Links.{links_in}
 use Rattle.record_rules.specs.Ways.{AreWaysOf}
-use Rattle.record_rules.proofs.Links.{length_links, links_within}
+use Rattle.record_rules.proofs.Links.{length_links}
 use Rattle.record_rules.proofs.Tallies.{count_one, count_none, names_more, names_none}
 use Rattle.tree_laws.specs.Ways.{IsOutside, KeepsWays, WaysKept, WaysAreShort}
 use Rattle.volume_tree.specs.declared.names.Names.{Names}
 use Rattle.volume_tree.specs.Named.{AreNamesOf}
-use Rattle.made_names.specs.Made.{MakesName, with_file, stands_in_system, PutsName, MadeNamesTell}
+use Rattle.made_names.specs.Made.{HasPlaces, MakesName, with_file, stands_in_system, PutsName, MadeNamesTell}
 
 -- ---- lists by number
 
@@ -50,6 +50,21 @@ set_at f g count other n x xs ys same old new within here else_same =
           get_or-set_other xs n k x d isnt ∙ ap (λ (l : List _). get_or l k d) old ∙ get_or-map-range_with_len f 0 count k k d lt (omega arith) ∙ sym (else_same k isnt)
           ∙ sym (get_or-map-range_with_len g 0 other k k d (omega (arith, lt, same)) (omega arith))
     ]
+
+-- ---- places
+
+length_by : {X : Type 0} (f : ℕ → X) (count : ℕ) (xs : List X) → xs ≡ map f (range_with_len 0 count) → length xs ≡ count
+length_by f count xs is = ap length is ∙ length-map-range_with_len f 0 count
+
+pub places : (records : List (Option Record)) (names : Names) (n d : ℕ) → AreNamesOf names records → n < length records → d < length names.counts.items → get_or names.counts.items d 0 < 2 ^ 64 - 1 → HasPlaces n d names
+places records names n d are within counted few = record {
+  links = let s = ap length are.links ∙ length_links records in omega (arith, within, s);
+  counts = counted;
+  few = few;
+  parents = let s = length_by (parent_at (table_in records)) (length records) names.ways.parents.items are.ways.parents in omega (arith, within, s);
+  rooted = let s = length_by (leads (table_in records) (length records)) (length records) names.ways.rooted.items are.ways.rooted in omega (arith, within, s);
+  in_system = let s = length_by (is_in_system (table_in records) (length records)) (length records) names.ways.in_system.items are.ways.in_system in omega (arith, within, s);
+}
 
 -- ---- names that stand in no file of a number
 

@@ -1,5 +1,5 @@
 -- The names of a volume's files once one more has a name.
-use Rattle.std.specs.Prelude.{◌≡◌, ℕ, ◌+◌, ◌<◌, ◌≤◌, true, Bool, List, [], ◌∷◌, length, slice_set, slice_index, Option, Some, None}
+use Rattle.std.specs.Prelude.{◌≡◌, ℕ, ◌+◌, ◌-◌, ◌^◌, ◌<◌, ◌≤◌, true, Bool, List, [], ◌∷◌, length, slice_set, slice_index, Option, Some, None}
 use Rattle.tree_laws.specs.record_model.Records.{Record}
 use Rattle.tree_laws.specs.file_tree.declared.link.Link.{Link}
 use Rattle.tree_laws.specs.file_tree.Walks.{first_user_record}
@@ -29,6 +29,15 @@ with_file n r records = slice_set records n (Some r)
 -- its directory is one of the volume itself, or stands below one, other than the root
 abbrev pub stands_in_system : List (Option Record) → Link → Bool
 stands_in_system records l = is_in_system (table_in records) (length records) l.parent.number
+
+-- there are places for the file and for its directory, in which one name more can be counted
+pub record HasPlaces (n parent : ℕ) (names : Names) : Type 0 where
+  pub links : n < length names.links.items
+  pub counts : parent < length names.counts.items
+  pub few : slice_index names.counts.items parent < 2 ^ 64 - 1
+  pub parents : n < length names.ways.parents.items
+  pub rooted : n < length names.ways.rooted.items
+  pub in_system : n < length names.ways.in_system.items
 
 -- The file has these names, one name more is counted in this directory, from which the way up reaches the root, and the file's way up is the directory's.
 pub record PutsName (n : ℕ) (links : List Link) (parent : ℕ) (system : Bool) (old new : Names) : Type 0 where

@@ -1,9 +1,9 @@
 //! The name of a file that is made.
-ghost use Rattle.std.specs.Prelude.{◌≡◌, ◌<◌, ◌-◌, ◌^◌, [], ◌∷◌, IfOk, length, slice_index};
+ghost use Rattle.std.specs.Prelude.{◌≡◌, ◌<◌, ◌-◌, ◌^◌, true, [], ◌∷◌, IfOk, OnOk, length, slice_index};
 ghost use Rattle.tree_laws.specs.state_model.Loads.{table_in};
 ghost use Rattle.tree_laws.specs.state_model.Trees.{is_in_system};
 ghost use Rattle.volume_tree.specs.Named.{AreNamesOf};
-ghost use Rattle.made_names.specs.Made.{PutsName};
+ghost use Rattle.made_names.specs.Made.{HasPlaces, PutsName};
 
 use host_base::Memory;
 use record_rules::{Climber, FileRec};
@@ -30,10 +30,22 @@ fn list_of(alloc: Global, link: Link) -> Result<LinkList, Memory>
     Ok(links)
 }
 
+// Whether one name more can be counted in the file with this number.
+fn can_count(counts: &[usize], number: u64) -> bool
+    ensures within { result ≡ true → number < length counts.now }
+    ensures few { result ≡ true → slice_index counts.now number < 2 ^ 64 - 1 }
+{
+    match counts.get(number as usize) {
+        Some(count) => *count < usize::MAX,
+        None => false,
+    }
+}
+
 impl NewName {
     /// The name `link` of the file with this number, which is to be made. `records` has the record in
     /// use of each number, if there is one, and `names` are the names of these. The error is want of
-    /// memory. It takes constant time.
+    /// memory, which comes too where no count has room for one name more. It takes constant time.
+    #[tactic(auto, using(crate::proofs::Telling::places))]
     pub fn new(
         alloc: Global,
         records: &[Option<FileRec>],
@@ -42,12 +54,17 @@ impl NewName {
         link: Link,
     ) -> Result<NewName, Memory>
         requires named { AreNamesOf names.now records.now }
+        requires within { number < length records.now }
         ensures number { IfOk result (λ new. new.number ≡ number) }
         ensures links { IfOk result (λ new. new.links ≡ link ∷ []) }
         ensures parent { IfOk result (λ new. new.parent ≡ link.parent.number) }
         ensures in_system { IfOk result (λ new. new.in_system ≡ is_in_system (table_in records.now) (length records.now) link.parent.number) }
+        ensures places { OnOk result (HasPlaces number link.parent.number names.now) }
     {
         let parent = link.parent.number;
+        if !can_count(&names.counts, parent) {
+            return Err(Memory);
+        }
         let climber = Climber::new(records, &names.ways);
         Ok(NewName {
             number,
@@ -60,12 +77,7 @@ impl NewName {
     /// Puts the name: the file has it, one name more stands in its directory, and the way up from it
     /// is that directory's. It takes no memory, and constant time.
     pub fn put(self, names: &mut Names)
-        requires links { self.number < length names.old.links.items }
-        requires counts { self.parent < length names.old.counts.items }
-        requires few { slice_index names.old.counts.items self.parent < 2 ^ 64 - 1 }
-        requires parents { self.number < length names.old.ways.parents.items }
-        requires rooted { self.number < length names.old.ways.rooted.items }
-        requires in_system { self.number < length names.old.ways.in_system.items }
+        requires places { HasPlaces self.number self.parent names.old }
         ensures puts { PutsName self.number self.links self.parent self.in_system names.old names.new }
     {
         let NewName {

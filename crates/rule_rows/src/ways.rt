@@ -2,9 +2,11 @@
 use crate::parts::{name_value, push_attribute, record_of, two_bytes};
 use file_record::FileRec;
 use file_tree::LinkList;
-use record_rules::{Climber, Ways, first_unrooted, links_in, links_of};
+use made_names::NewName;
+use record_rules::{Climber, Ways, first_unrooted, links_in, links_of, record_links};
 use std::alloc::{AllocError, Global};
 use std::test::Fail;
+use volume_tree::Names;
 
 // Directories from the first of these numbers to the second: the first one in the directory with
 // the third number, and each other one in that before it.
@@ -139,6 +141,48 @@ fn ways_lead_up(rt: HostRuntime) -> Result<(), Fail> {
         assert_eq!(rt; first_unrooted(&climber), *unrooted, "row {row}");
         let wrong = marks.iter().find(|mark| !has_mark(&climber, &links, mark));
         assert_eq!(rt; wrong.map(|mark| mark.0), None, "row {row}");
+    }
+    Ok(())
+}
+
+// The names of the files where one more, with this number, stands in this directory: put, and taken
+// of all files anew.
+fn named_both_ways(
+    alloc: Global,
+    records: &mut [Option<FileRec>],
+    number: usize,
+    parent: usize,
+) -> Result<(Names, Names), Fail> {
+    let mut names = Names::new(alloc, records)?;
+    let file = directory(alloc, number, parent)?;
+    if let Some(link) = record_links(alloc, number as u64, &file)?
+        .as_slice()
+        .first()
+        && number < records.len()
+    {
+        NewName::new(alloc, records, &names, number as u64, link.clone()?)?.put(&mut names);
+    }
+    if let Some(place) = records.get_mut(number) {
+        *place = Some(file);
+    }
+    let anew = Names::new(alloc, records)?;
+    Ok((names, anew))
+}
+
+#[test]
+fn one_name_more(rt: HostRuntime) -> Result<(), Fail> {
+    let alloc = rt.alloc();
+    let chains = [Chain(5, 5, 5), Chain(11, 11, 5), Chain(24, 30, 5)];
+    for (number, parent) in [(40, 27), (41, 11), (42, 5), (329, 30)] {
+        let mut records = records_of(alloc, &chains)?;
+        let (names, anew) = named_both_ways(alloc, &mut records, number, parent)?;
+        assert_eq!(rt; names.counts, anew.counts, "file {number}");
+        let links = links_of(&names.links, number as u64);
+        assert_eq!(rt;
+            links,
+            links_of(&anew.links, number as u64),
+            "file {number}"
+        );
     }
     Ok(())
 }
