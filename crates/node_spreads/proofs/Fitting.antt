@@ -1,35 +1,33 @@
 -- The nodes after a plan stood there before, or are written and have room.
-use Rattle.std.proofs.Common.{◌≡◌, inl, inr, ℕ, ◌+◌, ◌-◌, ◌<◌, ◌≤◌, Bool, true, false, List, [], ◌∷◌, ◌++◌, length, take, drop, Option, Some, refl, sym, ap, ◌∙◌, subst, arith, length-append, ◌⊎◌}
+use Rattle.std.proofs.Common.{◌≡◌, inl, inr, ℕ, ◌+◌, ◌≤◌, Bool, true, false, List, [], ◌∷◌, ◌++◌, length, take, drop, Option, Some, refl, sym, ap, ◌∙◌, subst, arith, length-append, ◌⊎◌}
 use Rattle.std.specs.Prelude.{reverse, nat_eq}
 use Rattle.std.specs.List.{AllByRecursion}
 use Rattle.std.proofs.lemmas.List.{reverse-append, take-append-drop, length-take-le}
-use Rattle.step_model.specs.disk_model.Content.{Content}
 use Rattle.plan_model.specs.record_model.declared.entry.Entry.{Entry as Raw}
 use Rattle.plan_model.specs.record_model.Nodes.{node_used, node_room, last_entry}
 use Rattle.plan_model.specs.index_model.declared.key.Key.{Key}
-use Rattle.plan_model.specs.index_model.Trees.{Tree, Leaf, Down, Entry, DownEntry, walk, held, times, one_if, raws_of, Stands, levels}
-use Rattle.plan_model.specs.index_model.Indexes.{Place, node_of_block, nodes_of}
+use Rattle.plan_model.specs.index_model.Trees.{Tree, Leaf, Down, Entry, DownEntry, walk, raws_of, Stands}
+use Rattle.plan_model.specs.index_model.Indexes.{node_of_block, nodes_of}
 use Rattle.plan_model.specs.index_plan.declared.write.Write.{Write}
 use Rattle.plan_model.specs.index_plan.Growth.{fits_in}
-use Rattle.plan_model.specs.index_plan.Laws.{NewTree, Once}
+use Rattle.plan_model.specs.index_plan.Laws.{NewTree}
 use Rattle.plan_model.specs.index_plan.Paths.{over, chosen}
 use Rattle.plan_model.specs.index_plan.Search.{put}
-use Rattle.plan_model.specs.index_change.declared.nodes_plan.NodesPlan.{NodesPlan}
-use Rattle.plan_model.specs.index_change.NodePlans.{NewNodes, TakesFront, rooted_of}
+use Rattle.plan_model.specs.index_change.NodePlans.{rooted_of}
 use Rattle.plan_model.specs.index_change.Orders.{goes, link_of}
 use Rattle.plan_model.specs.index_change.Plans.{root_room, seventeen, needs_level}
 use Rattle.step_model.specs.Spreads.{blocks_in, FitsBlock, FitBlocks, RootMay}
-use Rattle.node_spreads.specs.Nodes.{WritesFit, NodesAreSpread}
+use Rattle.node_spreads.specs.Nodes.{NodesAreSpread}
 use Rattle.node_spreads.proofs.Counting.{blocks_counted}
 
 -- what is known of a node's entries
-abbrev Known : (ℕ → Option (List Raw)) → ℕ → Option (List Raw) → Type 0
+abbrev pub Known : (ℕ → Option (List Raw)) → ℕ → Option (List Raw) → Type 0
 Known nodes v o = (entries : List Raw) → o ≡ Some entries → FitsBlock nodes v entries
 
-abbrev Fits : Write → Type 0
+abbrev pub Fits : Write → Type 0
 Fits w = node_used w.entries ≤ node_room
 
-one_fits : (nodes : ℕ → Option (List Raw)) (v : ℕ) (w : Write) (o : Option (List Raw)) (b : Bool) → Fits w → Known nodes v o → Known nodes v (chosen b w.entries o)
+pub one_fits : (nodes : ℕ → Option (List Raw)) (v : ℕ) (w : Write) (o : Option (List Raw)) (b : Bool) → Fits w → Known nodes v o → Known nodes v (chosen b w.entries o)
 one_fits nodes v w o true fits known entries is = inr (subst (λ (l : List Raw). node_used l ≤ node_room) (let e : w.entries ≡ entries = cc in e) fits)
 one_fits nodes v w o false fits known entries is = known entries is
 
@@ -44,7 +42,7 @@ over_fits nodes before v (w ∷ writes) all known = λ entries is.
     over_fits nodes (over before (w ∷ [])) v writes all.1 (one_fits nodes v w (before v) (nat_eq v w.vcn) all.0 known) entries
     (sym (over_append before (reverse writes) (w ∷ []) v) ∙ ap (λ (l : List Write). over before l v) (sym (reverse-append (w ∷ []) writes)) ∙ is)
 
-all_fit : (nodes after : ℕ → Option (List Raw)) (s : Tree) → Stands after s → ((v : ℕ) → Known nodes v (after v)) → FitBlocks nodes s
+pub all_fit : (nodes after : ℕ → Option (List Raw)) (s : Tree) → Stands after s → ((v : ℕ) → Known nodes v (after v)) → FitBlocks nodes s
 all_fit nodes after Leaf stands known = tt
 all_fit nodes after (Down v t) stands known = (known v (raws_of t) stands.0, all_fit nodes after t stands.1 known)
 all_fit nodes after (Entry key rest) stands known = all_fit nodes after rest stands known

@@ -7,4 +7,4 @@
 
 mod laws;
 
-pub use laws::{blocks_are_counted, nodes_are_spread, spreads_widen};
+pub use laws::{blocks_are_counted, levels_are_needed, nodes_are_spread, spreads_widen};
