@@ -1,9 +1,8 @@
--- What a draft has put of a new file is the step of its content.
-use Rattle.std.proofs.Common.{◌≡◌, ℕ, ◌/◌, ◌≤◌, Bool, true, false, cond, eqb, List, [], ◌∷◌, ◌++◌, length, Option, Some, None, Ok, refl, sym, ap, ap₂, subst, ◌∙◌, arith}
+-- What a draft has put of a new file behind the growth of its directory's index is the step of its content.
+use Rattle.std.proofs.Common.{◌≡◌, ℕ, ◌+◌, ◌-◌, ◌/◌, ◌<◌, ◌≤◌, Bool, true, false, eqb, List, [], ◌∷◌, ◌++◌, length, Option, Some, None, Ok, refl, sym, ap, ap₂, subst, ◌∙◌, arith}
 use mathlib.Core.Path.{fun_ext}
-use Rattle.std.specs.Prelude.{Result}
 use Rattle.std.specs.List.{AllByRecursion}
-use Rattle.std.proofs.lemmas.Bool.{and_parts, le-ltb}
+use Rattle.std.proofs.lemmas.Bool.{and_parts, both_ways}
 use Rattle.host_base.specs.declared.file_ref.FileRef.{FileRef}
 use Rattle.disk_model.specs.declared.block.Block.{Block}
 use Rattle.disk_model.specs.declared.block.BlockKind.TheVariants.{Index}
@@ -16,7 +15,7 @@ use Rattle.file_tree.specs.declared.node.Node.{Node}
 use Rattle.file_tree.specs.declared.link.Link.{Link}
 use Rattle.index_model.specs.declared.key.Key.{Key}
 use Rattle.index_model.specs.Trees.{Tree, levels}
-use Rattle.index_model.specs.Indexes.{Place, node_of_block, nodes_of, IsIndex}
+use Rattle.index_model.specs.Indexes.{Place, node_of_block, nodes_of, most_levels, IsIndex}
 use Rattle.index_model.specs.Laws.{HoldsIndex}
 use Rattle.index_change.specs.declared.nodes_plan.NodesPlan.{NodesPlan}
 use Rattle.index_change.specs.declared.plan.DirPlan.{DirPlan}
@@ -35,7 +34,7 @@ use Rattle.tree_laws.specs.Contents.{SameUpper}
 use Rattle.tree_laws.proofs.Agreeing.{same_upper}
 use Rattle.tree_model.specs.declared.script.Op.TheVariants.{Create}
 use Rattle.tree_model.specs.declared.reply.Reply.{Reply}
-use Rattle.tree_model.specs.declared.reply.Reply.TheVariants.{Created, RecordFull}
+use Rattle.tree_model.specs.declared.reply.Reply.TheVariants.{Created}
 use Rattle.tree_model.specs.Needs.{needed}
 use Rattle.tree_model.specs.Refusals.{new_name, parent_path, first_of}
 use Rattle.tree_model.specs.Effects.{numbers_to_take, least_ref, new_link}
@@ -55,17 +54,15 @@ use Rattle.record_streams.proofs.Streams.{attribute_kind}
 use Rattle.made_trees.specs.record_times.Times.{timed_record}
 use Rattle.made_trees.specs.record_times.Laws.{TimesAreSet}
 use Rattle.made_trees.proofs.plan_values.Valued.{values_written}
-use Rattle.made_trees.specs.step_model.Plans.{Plan, made_plan, spread_comes, spread_used, content_rows, full_row, new_file_attrs, grows_table, table_in, table_change, used_in, used_if, no_plan, IsMadePlan, IsPlan}
-use Rattle.made_trees.specs.step_model.Placing.{Growth}
-use Rattle.made_trees.specs.step_model.Spreads.{IsSpread, IsKeyOf, Flat}
+use Rattle.made_trees.specs.step_model.Plans.{Plan, made_plan, made_spread, spread_comes, spread_used, content_rows, full_row, new_file_attrs, grows_table, table_in, table_change, used_in, used_if, no_plan, IsMadePlan, IsPlan}
+use Rattle.made_trees.specs.step_model.Placing.{Growth, AllPlaced, wanted_by}
+use Rattle.made_trees.specs.step_model.Spreads.{blocks_in, IsSpread, IsKeyOf, Outcome, Flat, Raised, MayBecome}
 use Rattle.made_trees.specs.step_model.Steps.{HasIndex, Step}
 use Rattle.made_trees.specs.step_model.Contents.{IsLeft}
 use Rattle.made_trees.specs.step_model.Used.{most_used}
 use Rattle.made_trees.proofs.step_model.NeverFull.{never_full}
-use Rattle.made_trees.proofs.step_model.Planning.{plans_placed}
 use Rattle.made_trees.proofs.change_steps.Planning.{without_journal, at_node}
 use Rattle.made_trees.proofs.made_files.Roots.{OneRoot, one_root, rooted_value}
-use Rattle.made_trees.specs.Left.{StaysGrown}
 use Rattle.plan_owners.proofs.Standing.{streams_at}
 use Rattle.volume_model.specs.Sizes.{keeps_streams}
 use Rattle.plan_bodies.specs.Bodies.{body_in}
@@ -77,7 +74,6 @@ use Rattle.made_trees.specs.change_steps.Found.{IsPlaceFound, FoundIsThere}
 use Rattle.made_trees.specs.change_steps.Makings.{IsMade, MakingsAreSteps}
 use Rattle.made_trees.specs.new_files.Laws.{NewFileReads}
 use Rattle.made_trees.specs.file_puts.declared.streams.VolumeStreams.{VolumeStreams}
-use Rattle.made_trees.proofs.written_values.Joining.{nothing_kept}
 use Rattle.made_trees.proofs.written_values.Sparing.{elsewhere}
 use Rattle.made_trees.specs.file_makes.declared.newfile.NewFile.{NewFile}
 use Rattle.made_trees.specs.file_makes.Making.{made_record}
@@ -86,6 +82,17 @@ use Rattle.made_trees.specs.Created.{timed_directory, timed_volume, made_volume}
 use Rattle.made_trees.proofs.Going as going
 use Rattle.made_trees.proofs.Leaving as leaving
 use Rattle.made_steps.specs.Steps.{HasRootOf, TakesStep, MadeFilesAreSteps}
+use Rattle.made_trees.proofs.Nothing.{behind_nothing, file_leaves}
+use Rattle.made_trees.specs.Behind.{MakesFileBehind}
+use Rattle.made_trees.specs.Left.{StaysGrown}
+use Rattle.made_trees.specs.change_steps.Found.{HasChange, Finds}
+use Rattle.change_lookup.specs.declared.found.Found.TheVariants.{Place as PlaceFound}
+use Rattle.file_tree.specs.Trees.{node_at as node_by_number}
+use Rattle.made_trees.proofs.step_model.Planning.{plans_placed}
+use Rattle.made_steps.specs.Behind.{MayRise, TakesStepBehind, MadeBehindAreSteps}
+use Rattle.node_spreads.proofs.Counting.{blocks_counted}
+use Rattle.node_spreads.proofs.Widening.{spreads_wider}
+use Rattle.made_steps.proofs.Rows.{not_full, same_ref, same_path}
 use Rattle.made_steps.proofs.Frames.{no_mirror, index_away, same_in, root_written}
 
 info_spares : (kind : ℕ) (name : List ℕ) → eqb kind standard_information ≡ false → (a : Attr) → is_attribute_of kind name a ≡ true → is_info a ≡ false
@@ -102,36 +109,40 @@ upper_by c d v w per same bytes =
     ∙ ap (λ (e : ℕ). table_or_standard (upcase_of (bytes_or d e (file_stream data_type [] (file_in v upcase_file))))) per
     ∙ same_upper c d v bytes
 
-not_full : (used : ℕ) (more : List ℕ) → used ≤ most_used → full_row more ≡ None → full_row (used ∷ more) ≡ None
-not_full used more low rest = ap (λ (b : Bool). cond b (Some (RecordFull used)) (full_row more)) (le-ltb most_used used low) ∙ rest
-
 -- ---- an index that stands elsewhere
 
-moved : (d e : Content) (here there : Place) (low high value : List ℕ) (u : Tree) → here ≡ there → low ≡ high → node_of_block d there ≡ node_of_block e there → HoldsIndex d here low value u → HoldsIndex e there high value u
-moved d e here there low high value u places uppers nodes h =
-    let first : HoldsIndex d there low value u = subst (λ (y : Place). HoldsIndex d y low value u) places h in
-    let second : HoldsIndex d there high value u = subst (λ (y : List ℕ). HoldsIndex d there y value u) uppers first in
-    record { entries = second.entries; root_read = second.root_read; is_index = subst (λ (y : ℕ → Result (List Raw) ℕ). IsIndex (nodes_of y) second.entries high u) nodes second.is_index }
-
-same_ref : (o : Option FileRef) (x y : FileRef) → o ≡ Some x → o ≡ Some y → x ≡ y
-same_ref o x y one two = cc
+moved : (d e : Content) (here there : Place) (low high value : List ℕ) (u : Tree) → low ≡ high → nodes_of (node_of_block d here) ≡ nodes_of (node_of_block e there) → HoldsIndex d here low value u → HoldsIndex e there high value u
+moved d e here there low high value u uppers nodes h =
+    let by_upper : IsIndex (nodes_of (node_of_block d here)) h.entries high u = subst (λ (y : List ℕ). IsIndex (nodes_of (node_of_block d here)) h.entries y u) uppers h.is_index in
+    record { entries = h.entries; root_read = h.root_read; is_index = subst (λ (y : ℕ → Option (List Raw)). IsIndex y h.entries high u) nodes by_upper }
 
 same_node_of : (o : Option Node) (x y : Node) → o ≡ Some x → o ≡ Some y → x ≡ y
 same_node_of o x y one two = cc
 
-module _ (times_set : TimesAreSet) (reads : NewFileReads) (there_is : FoundIsThere) (makings : MakingsAreSteps) (c : Content) (g : Geometry) (clusters : ℕ) (v : Volume) (s : VolumeStreams) (numbers : Extents) (path : List (List ℕ)) (m : NewFile) (directory a : Node) (r : Record) (value : List ℕ) (t : Tree) (fresh : List ℕ) (nodes : NodesPlan) (timed new : List Touched)
-    (k : TakesStep c g clusters v s numbers path m directory a r value t fresh nodes timed new) where
+-- ---- what is put
+
+-- What is asked for, but for the room of the directory's record and what is left of the content.
+pub record Takes (c : Content) (g : Geometry) (clusters : ℕ) (v : Volume) (s : VolumeStreams) (numbers : Extents) (path : List (List ℕ)) (m : NewFile) (directory a : Node) (r : Record) (growths : List Growth) (u : Volume) (now : Record) (grown : List Touched) (more : ℕ) (value : List ℕ) (used : ℕ) (t : Tree) (fresh : List ℕ) (nodes : NodesPlan) (timed new : List Touched) : Type 0 where
+  pub has : HasChange c g clusters v (Create path)
+  pub finds : Finds c v (Create path) (PlaceFound directory m.name m.file)
+  pub node : node_by_number (tree_of c v).nodes directory.number ≡ Some a
+  pub by : MakesFileBehind c g clusters v s numbers m a r growths u now grown value used t fresh nodes timed new
+  pub short : length m.name ≤ 255
+  pub least : used_of r.attrs ≤ used
+  pub taken : more ≤ length nodes.taken.items
+  pub enough : wanted_by growths ≤ needed (tree_of c v) 0 (Create path) a
+  pub level : needs_level (upper_of c v) (root_room used value) (made_key m) (seventeen fresh) t ≡ true → MayRise c v a.number r value (made_key m) t
+
+module _ (times_set : TimesAreSet) (reads : NewFileReads) (there_is : FoundIsThere) (makings : MakingsAreSteps) (c : Content) (g : Geometry) (clusters : ℕ) (v : Volume) (s : VolumeStreams) (numbers : Extents) (path : List (List ℕ)) (m : NewFile) (directory a : Node) (r : Record) (growths : List Growth) (u : Volume) (now : Record) (grown : List Touched) (more : ℕ) (value : List ℕ) (used : ℕ) (t : Tree) (fresh : List ℕ) (nodes : NodesPlan) (timed new : List Touched)
+    (k : Takes c g clusters v s numbers path m directory a r growths u now grown more value used t fresh nodes timed new) where
   abbrev n : ℕ
   n = m.file.number
 
   abbrev dir : ℕ
   dir = m.parent.number
 
-  abbrev used : ℕ
-  used = used_of r.attrs
-
   abbrev first : Content
-  first = drafted [] c
+  first = drafted grown c
 
   abbrev middle : Content
   middle = drafted timed c
@@ -140,54 +151,57 @@ module _ (times_set : TimesAreSet) (reads : NewFileReads) (there_is : FoundIsThe
   last = drafted new c
 
   abbrev p : Record
-  p = timed_record m.stamp r
+  p = timed_record m.stamp now
 
   abbrev q : Record
-  q = timed_directory m.stamp r
+  q = timed_directory m.stamp now
 
   abbrev x : Volume
-  x = timed_volume v m r
+  x = timed_volume u m now
 
   abbrev plan : DirPlan
   plan = k.by.made.put.plan
 
   abbrev z : Record
-  z = rooted_directory k.by.made.put.plan (timed_directory m.stamp r)
+  z = rooted_directory k.by.made.put.plan (timed_directory m.stamp now)
 
   abbrev f : Record
   f = made_record (drafted timed c) s.table m
 
   abbrev w : Volume
-  w = made_volume c v s m r k.by.made.put.plan timed
+  w = made_volume c u s m now k.by.made.put.plan timed
 
   abbrev key : Key
   key = made_key m
 
-  two : IsMadeEdit c x s m q value used t fresh k.by.made.put.plan timed new
-  two = going.made times_set reads c g clusters v s numbers m a r value (used_of r.attrs) t fresh nodes timed new k.by
+  pub two : IsMadeEdit c x s m q value used t fresh k.by.made.put.plan timed new
+  two = going.made times_set reads c g clusters v s numbers m a r growths u now grown value used t fresh nodes timed new k.by
 
-  abbrev tree : Tree
+  abbrev pub tree : Tree
   tree = two.index.tree
 
   sized_first : HasSizes first
-  sized_first = sized_with c (bodies_of []) k.by.sized
+  sized_first = sized_with c (bodies_of grown) k.by.sized
 
   sized_middle : HasSizes middle
   sized_middle = sized_with c (bodies_of timed) k.by.sized
 
   state_x : Stands middle g clusters x
-  state_x = going.stands times_set reads c g clusters v s numbers m a r value (used_of r.attrs) t fresh nodes timed new k.by
+  state_x = going.stands times_set reads c g clusters v s numbers m a r growths u now grown value used t fresh nodes timed new k.by
 
-  rewritten : RewritesValues is_info r p
-  rewritten = going.anew times_set reads c g clusters v s numbers m a r value (used_of r.attrs) t fresh nodes timed new k.by
+  rewritten : RewritesValues is_info now p
+  rewritten = going.anew times_set reads c g clusters v s numbers m a r growths u now grown value used t fresh nodes timed new k.by
+
+  state_first : Stands first g clusters u
+  state_first = going.first_stands times_set reads c g clusters v s numbers m a r growths u now grown value used t fresh nodes timed new k.by
 
   -- ---- the table of upper-case units
 
   upper_middle : upper_of middle x ≡ upper_of c v
   upper_middle =
-      let one = going.edit times_set reads c g clusters v s numbers m a r value (used_of r.attrs) t fresh nodes timed new k.by in
-      let bytes : SameUpper first middle v = subst (λ (y : Content). SameUpper first y v) one.1.0.content (values_written.leads first g clusters v dir r p q one.0 sized_first (going.first_stands times_set reads c g clusters v s numbers m a r value (used_of r.attrs) t fresh nodes timed new k.by) one.1.1).agrees.upper in
-      upper_by first middle v x refl (elsewhere v dir upcase_file q (λ same. k.by.own.apart.upcase (sym same))) bytes ∙ ap (λ (y : Content). upper_of y v) (going.start times_set reads c g clusters v s numbers m a r value (used_of r.attrs) t fresh nodes timed new k.by)
+      let one = going.edit times_set reads c g clusters v s numbers m a r growths u now grown value used t fresh nodes timed new k.by in
+      let bytes : SameUpper first middle u = subst (λ (y : Content). SameUpper first y u) one.1.0.content (values_written.leads first g clusters u dir now p q one.0 sized_first state_first one.1.1).agrees.upper in
+      upper_by first middle u x refl (elsewhere u dir upcase_file q (λ same. k.by.own.apart.upcase (sym same))) bytes ∙ k.by.before.index.upper
 
   upper_last : upper_of last w ≡ upper_of middle x
   upper_last =
@@ -198,50 +212,63 @@ module _ (times_set : TimesAreSet) (reads : NewFileReads) (there_is : FoundIsThe
 
   -- ---- the index before
 
-  place_same : index_place v.per q ≡ index_place v.per r
+  place_same : index_place u.per q ≡ index_place u.per now
   unfolding index_place index_stream
   place_same =
-      ap (λ (o : Option Stream). record { blocks = stream_blocks v.per o; step = 8 / v.per })
-      ((leaving.stands_as times_set reads c g clusters v s numbers m a r value (used_of r.attrs) t fresh nodes timed new [] k.by tt tt).streams index_allocation names_index ∙ same_stream is_info r p index_allocation names_index rewritten (info_spares index_allocation names_index refl))
+      ap (λ (o : Option Stream). record { blocks = stream_blocks u.per o; step = 8 / u.per })
+      ((leaving.stands_as times_set reads c g clusters v s numbers m a r growths u now grown value used t fresh nodes timed new k.by).streams index_allocation names_index ∙ same_stream is_info now p index_allocation names_index rewritten (info_spares index_allocation names_index refl))
 
-  timed_is : timed ≡ touch_if c (record_block v.per v.table dir) (is_past v.table dir) (record_spelling (written_record p)) []
+  timed_is : timed ≡ touch_if c (record_block u.per u.table dir) (is_past u.table dir) (record_spelling (written_record p)) grown
   timed_is =
       k.by.times.put
-      ∙ ap (λ (e : ℕ). touch_record c e s.table s.mirror dir (record_spelling (written_record p)) []) (sym (per_is c g clusters v k.by.eight k.by.stands))
-      ∙ ap (λ (e : Extents). touch_record c v.per e s.mirror dir (record_spelling (written_record p)) []) k.by.streams.table
-      ∙ no_mirror c v.per v.table s.mirror dir (record_spelling (written_record p)) [] k.by.made.directory.mirrored_none
+      ∙ ap (λ (e : ℕ). touch_record c e s.table s.mirror dir (record_spelling (written_record p)) grown) (sym (per_is first g clusters u k.by.eight state_first))
+      ∙ ap (λ (e : Extents). touch_record c u.per e s.mirror dir (record_spelling (written_record p)) grown) k.by.streams.table
+      ∙ no_mirror c u.per u.table s.mirror dir (record_spelling (written_record p)) grown k.by.made.directory.mirrored_none
 
-  block_same : (b : Block) → b.kind ≡ Index → middle b ≡ c b
+  block_same : (b : Block) → b.kind ≡ Index → middle b ≡ first b
   block_same b kind =
-      drafted_same c [] timed b k.by.sized nothing_kept k.by.made.kept (ap (λ (l : List Touched). body_in (bodies_of l) b) timed_is ∙ index_away c v.per v.table dir (is_past v.table dir) (record_spelling (written_record p)) [] b kind)
-      ∙ ap (λ (y : Content). y b) (going.start times_set reads c g clusters v s numbers m a r value (used_of r.attrs) t fresh nodes timed new k.by)
+      drafted_same c grown timed b k.by.sized k.by.before.kept k.by.made.kept (ap (λ (l : List Touched). body_in (bodies_of l) b) timed_is ∙ index_away c u.per u.table dir (is_past u.table dir) (record_spelling (written_record p)) grown b kind)
 
-  same_nodes : SameNodesIn c middle (index_place v.per r)
-  same_nodes = same_place c middle v.per r (same_in c middle v.per (index_stream r) block_same)
+  same_nodes : SameNodesIn first middle (index_place u.per now)
+  same_nodes = same_place first middle u.per now (same_in first middle u.per (index_stream now) block_same)
 
-  nodes_same : node_of_block middle (index_place v.per r) ≡ node_of_block c (index_place v.per r)
-  nodes_same = fun_ext (λ i. same_node c middle (index_place v.per r) i same_nodes)
+  -- what stands there is what stood before
+  nodes_same : nodes_of (node_of_block middle (index_place u.per q)) ≡ nodes_of (node_of_block c (index_place v.per r))
+  nodes_same =
+      ap (λ (y : Place). nodes_of (node_of_block middle y)) place_same
+      ∙ ap nodes_of (fun_ext (λ i. same_node first middle (index_place u.per now) i same_nodes))
+      ∙ fun_ext (λ i. k.by.before.index.nodes i)
 
   value_is : root_value r ≡ Some value
-  value_is = sym (root_written p ∙ same_root is_info r p rewritten root_spares) ∙ k.by.made.entry.root
+  value_is = sym (root_written p ∙ same_root is_info now p rewritten root_spares ∙ k.by.before.index.root) ∙ k.by.made.entry.root
 
   holds_before : HoldsIndex c (index_place v.per r) (upper_of c v) value t
-  holds_before = moved middle c (index_place v.per q) (index_place v.per r) (upper_of middle x) (upper_of c v) value t place_same upper_middle nodes_same k.by.made.entry.holds
+  holds_before = moved middle c (index_place u.per q) (index_place v.per r) (upper_of middle x) (upper_of c v) value t upper_middle nodes_same k.by.made.entry.holds
 
   -- ---- the index behind
 
-  abbrev may_room : ℕ
-  may_room = root_room (used_of r.attrs) value
+  blocks_more : more ≤ blocks_in tree - blocks_in t
+  blocks_more =
+      let come : blocks_in tree + length plan.freed.items ≡ blocks_in t + length plan.taken.items = blocks_counted tree t plan.freed.items plan.taken.items two.index.numbers in
+      let none = ap (λ (l : List ℕ). length l) k.by.made.put.laid.freed in
+      let same = ap (λ (l : List ℕ). length l) k.by.made.put.laid.taken in
+      let most = k.taken in
+      omega (arith, come, none, same, most)
 
-  spread : IsSpread (nodes_of (node_of_block c (index_place v.per r))) (upper_of c v) may_room key t false tree 0
+  abbrev level : Bool
+  level = needs_level (upper_of c v) (root_room used value) (made_key m) (seventeen fresh) t
+
+  abbrev Spread : ℕ → Bool → Tree → ℕ → Type 0
+  Spread room up y many = IsSpread (nodes_of (node_of_block c (index_place v.per r))) (upper_of c v) room (made_key m) t up y many
+
+  spread : Spread (root_room (used_of r.attrs) value) level tree more
   spread =
-      let raw = plans_spread middle (index_place v.per q) (upper_of middle x) value used t fresh key _ plan 0 sized_middle k.by.made.entry.laid two.index two.little (omega arith) in
-      let by_upper = subst (λ (u : List ℕ). IsSpread (nodes_of (node_of_block middle (index_place v.per q))) u may_room key t (needs_level u may_room key (seventeen fresh) t) tree 0) upper_middle raw in
-      let by_place = subst (λ (y : Place). IsSpread (nodes_of (node_of_block middle y)) (upper_of c v) may_room key t (needs_level (upper_of c v) may_room key (seventeen fresh) t) tree 0) place_same by_upper in
-      let by_nodes = subst (λ (y : ℕ → Result (List Raw) ℕ). IsSpread (nodes_of y) (upper_of c v) may_room key t (needs_level (upper_of c v) may_room key (seventeen fresh) t) tree 0) nodes_same by_place in
-      subst (λ (b : Bool). IsSpread (nodes_of (node_of_block c (index_place v.per r))) (upper_of c v) may_room key t b tree 0) k.flat by_nodes
+      let raw = plans_spread middle (index_place u.per q) (upper_of middle x) value used t fresh key _ plan more sized_middle k.by.made.entry.laid two.index two.little blocks_more in
+      let by_upper = subst (λ (y : List ℕ). IsSpread (nodes_of (node_of_block middle (index_place u.per q))) y (root_room used value) key t (needs_level y (root_room used value) key (seventeen fresh) t) tree more) upper_middle raw in
+      let by_nodes = subst (λ (y : ℕ → Option (List Raw)). IsSpread y (upper_of c v) (root_room used value) key t level tree more) nodes_same by_upper in
+      spreads_wider (nodes_of (node_of_block c (index_place v.per r))) (upper_of c v) (used_of r.attrs) used value key t level tree more k.least by_nodes
 
-  has_root : HasRootOf value nodes tree
+  pub has_root : HasRootOf value nodes tree
   has_root = sym two.index.root ∙ k.by.made.put.laid.root
 
   one_root_is : OneRoot q value
@@ -254,10 +281,10 @@ module _ (times_set : TimesAreSet) (reads : NewFileReads) (there_is : FoundIsThe
   has_index : HasIndex last w a.number tree
   has_index = record {
     r = z;
-    file = ap (file_in w) (sym a_number) ∙ leaving.dir_w times_set reads c g clusters v s numbers m a r value (used_of r.attrs) t fresh nodes timed new [] k.by tt tt;
+    file = ap (file_in w) (sym a_number) ∙ leaving.dir_w times_set reads c g clusters v s numbers m a r growths u now grown value used t fresh nodes timed new k.by;
     value = plan.root;
     root = rooted_value q value plan.root one_root_is k.by.made.directory.written;
-    holds = subst (λ (u : List ℕ). HoldsIndex last (index_place v.per z) u plan.root tree) (sym upper_last) two.holds;
+    holds = subst (λ (l : List ℕ). HoldsIndex last (index_place u.per z) l plan.root tree) (sym upper_last) two.holds;
   }
 
   -- ---- the plan
@@ -265,21 +292,18 @@ module _ (times_set : TimesAreSet) (reads : NewFileReads) (there_is : FoundIsThe
   found : (other : List (List ℕ)) × (Create path ≡ Create other) × IsPlaceFound c v other directory m.name m.file
   found = there_is.place c g clusters v (Create path) directory m.name m.file k.has k.finds
 
-  same_path : (other : List (List ℕ)) → Create path ≡ Create other → other ≡ path
-  same_path other is = cc
-
   at : IsPlaceFound c v path directory m.name m.file
-  at = subst (λ (y : List (List ℕ)). IsPlaceFound c v y directory m.name m.file) (same_path found.0 found.1) found.2
+  at = subst (λ (y : List (List ℕ)). IsPlaceFound c v y directory m.name m.file) (same_path path found.0 found.1) found.2
 
-  abbrev own : Plan
-  own = made_plan c v (new_name path) a.number r (levels t) (Flat two.index.tree 0)
+  abbrev pub own : Plan
+  own = made_spread c v (new_name path) a.number r two.index.tree more
 
   grows : grows_table (tree_of c v) ≡ false
   unfolding grows_table
-  grows = going.some_left times_set reads c g clusters v s numbers m a r value (used_of r.attrs) t fresh nodes timed new k.by
+  grows = going.some_left times_set reads c g clusters v s numbers m a r growths u now grown value used t fresh nodes timed new k.by
 
-  low : spread_used c v a.number r tree 0 ≤ most_used
-  low = k.room tree has_root
+  abbrev pub HasRoom : Type 0
+  HasRoom = spread_used c v a.number r tree more ≤ most_used
 
   file_a : file_in v a.number ≡ Some r
   file_a = ap (file_in v) (sym a_number) ∙ k.by.own.file
@@ -287,11 +311,29 @@ module _ (times_set : TimesAreSet) (reads : NewFileReads) (there_is : FoundIsThe
   key_of_link : (ref : FileRef) → least_ref (numbers_to_take (tree_of c v)) ≡ Some ref → IsKeyOf (new_link a (new_name path) ref) key
   key_of_link ref least =
       let same = same_ref (least_ref (numbers_to_take (tree_of c v))) m.file ref at.least least in
-      let link : made_link m ≡ new_link a (new_name path) ref = going.same_link times_set reads c g clusters v s numbers m a r value (used_of r.attrs) t fresh nodes timed new k.by ∙ ap₂ (λ (l : List ℕ) (y : FileRef). new_link a l y) at.named same in
-      subst (λ (l : Link). IsKeyOf l key) link (going.reads_file times_set reads c g clusters v s numbers m a r value (used_of r.attrs) t fresh nodes timed new k.by).key
+      let link : made_link m ≡ new_link a (new_name path) ref = going.same_link times_set reads c g clusters v s numbers m a r growths u now grown value used t fresh nodes timed new k.by ∙ ap₂ (λ (l : List ℕ) (y : FileRef). new_link a l y) at.named same in
+      subst (λ (l : Link). IsKeyOf l key) link (going.reads_file times_set reads c g clusters v s numbers m a r growths u now grown value used t fresh nodes timed new k.by).key
 
-  is_own : IsMadePlan c v path a own
-  is_own = record {
+  low_levels : needs_level (upper_of middle x) (root_room used value) key (seventeen fresh) t ≡ true → levels t < most_levels
+  low_levels up = (two.index.one_entry up).0
+
+  MayBe : Outcome → Type 0
+  MayBe o = MayBecome (nodes_of (node_of_block c (index_place v.per r))) (upper_of c v) (root_room (used_of r.attrs) value) key r (used_of r.attrs) t (spread_used c v a.number r) o × (own ≡ made_plan c v (new_name path) a.number r (levels t) o)
+
+  may : HasRoom → (b : Bool) → level ≡ b → (o : Outcome) × MayBe o
+  unfolding MayBe
+  may low false is = (Flat tree more, ((subst (λ (up : Bool). Spread (root_room (used_of r.attrs) value) up tree more) is spread, (λ over rises. (let small = low in absurd (omega (arith, over, small))))), refl))
+  may low true is =
+      let rises : MayRise c v a.number r value key t = k.level is in
+      let few : levels t < most_levels = low_levels (ap (λ (y : List ℕ). needs_level y (root_room used value) key (seventeen fresh) t) upper_middle ∙ is) in
+      (Raised rises.flat rises.behind tree more, ((rises.spread, rises.may, few, subst (λ (up : Bool). Spread (root_room (used_of r.attrs) value) up tree more) is spread), refl))
+
+  becomes : HasRoom → (o : Outcome) × MayBe o
+  becomes low = may low level refl
+
+  is_own : HasRoom → IsMadePlan c v path a own
+  unfolding MayBe
+  is_own low = record {
     r = r;
     file = file_a;
     value = value;
@@ -300,52 +342,102 @@ module _ (times_set : TimesAreSet) (reads : NewFileReads) (there_is : FoundIsThe
     holds = holds_before;
     key = key;
     is_key = key_of_link;
-    outcome = Flat two.index.tree 0;
-    may = (spread, (λ over level. (let small = low in absurd (omega (arith, over, small)))));
-    is = refl;
+    outcome = (becomes low).0;
+    may = (becomes low).1.0;
+    is = (becomes low).1.1;
   }
 
-  is_plan : IsPlan c v (Create path) 0 own
-  is_plan = record {
+  pub is_plan : HasRoom → IsPlan c v (Create path) 0 own
+  is_plan low = record {
     own = own;
-    is_own = at_node (reached_directory (upper_of c v) (tree_of c v).nodes (tree_of c v).links (parent_path path)) a (λ (y : Node). IsMadePlan c v path y own) (own ≡ no_plan) (at.walked ∙ ap (λ (y : Node). Ok y) (same_node_of _ at.a a at.node k.node)) is_own;
+    is_own = at_node (reached_directory (upper_of c v) (tree_of c v).nodes (tree_of c v).links (parent_path path)) a (λ (y : Node). IsMadePlan c v path y own) (own ≡ no_plan) (at.walked ∙ ap (λ (y : Node). Ok y) (same_node_of _ at.a a at.node k.node)) (is_own low);
     is = sym (without_journal c v 0 own k.has.journal refl);
   }
 
-  free : first_of (content_rows own) ≡ None
-  free =
+  free : HasRoom → first_of (content_rows own) ≡ None
+  free low =
       let short : length (new_name path) ≤ 255 = subst (λ (l : List ℕ). length l ≤ 255) at.named k.short in
       let rest : full_row (used_if (grows_table (tree_of c v)) (used_in (file_in v table_file) (table_change c v))) ≡ None = ap (λ (b : Bool). full_row (used_if b (used_in (file_in v table_file) (table_change c v)))) grows in
       let last_ones : List ℕ = used_if (grows_table (tree_of c v)) (used_in (file_in v table_file) (table_change c v)) in
-      let full : full_row own.used ≡ None = not_full (used_of (new_file_attrs (new_name path))) (spread_used c v a.number r tree 0 ∷ last_ones) (never_full.made (new_name path) short) (not_full (spread_used c v a.number r tree 0) last_ones low rest) in
+      let full : full_row own.used ≡ None = not_full (used_of (new_file_attrs (new_name path))) (spread_used c v a.number r tree more ∷ last_ones) (never_full.made (new_name path) short) (not_full (spread_used c v a.number r tree more) last_ones low rest) in
       ap (λ (o : Option Reply). first_of (o ∷ None ∷ None ∷ [])) full
 
-  no_table : (table_change c v).growths ≡ []
+  pub no_table : (table_change c v).growths ≡ []
   no_table = ap (λ (b : Bool). (table_in b (cluster_bits c v) v (file_in v table_file)).growths) grows
-
-  all_stay : AllByRecursion (StaysGrown v dir) own.growths
-  all_stay = subst (λ (l : List Growth). AllByRecursion (StaysGrown v dir) (l ++ (spread_comes c v a.number r tree 0).growths)) (sym no_table) (k.stay tree has_root)
 
   -- ---- the step
 
-  left : IsLeft c v clusters (n ∷ a.number ∷ []) own.growths last w
-  left =
-      subst (λ (i : ℕ). IsLeft c v clusters (n ∷ i ∷ []) own.growths last w) a_number
-      (leaving.left times_set reads c g clusters v s numbers m a r value (used_of r.attrs) t fresh nodes timed new own.growths k.by (plans_placed c v (Create path) 0 own is_plan) all_stay)
+  abbrev pub Leaves : Type 0
+  Leaves = IsLeft c v clusters (n ∷ dir ∷ []) own.growths last w
 
-  is_made : IsMade c g clusters v path m.stamp a m.name m.file own last
-  is_made =
-      let reached = going.reaches times_set reads c g clusters v s numbers m a r value (used_of r.attrs) t fresh nodes timed new k.by in
+  is_made : Leaves → IsMade c g clusters v path m.stamp a m.name m.file own last
+  is_made left =
+      let reached = going.reaches times_set reads c g clusters v s numbers m a r growths u now grown value used t fresh nodes timed new k.by in
       record {
         after = w;
         stands = subst (λ (y : Content). Stands y g clusters w) reached.content reached.draft.stands;
-        tree = (going.has_made_file times_set reads c g clusters v s numbers m a r value (used_of r.attrs) t fresh nodes timed new k.by).tree (needed (tree_of c v) 0 (Create path) a);
-        left = left;
+        tree = (going.has_made_file times_set reads c g clusters v s numbers m a r growths u now grown value used t fresh nodes timed new k.by).tree (needed (tree_of c v) 0 (Create path) a) k.enough;
+        left = subst (λ (i : ℕ). IsLeft c v clusters (n ∷ i ∷ []) own.growths last w) a_number left;
         index = has_index;
       }
 
-  pub stepped : Step g clusters (Create path) m.stamp (Created m.file.number m.file.seq) c last
-  stepped = makings.made c g clusters v path m.stamp directory a m.name m.file own last k.has k.finds k.node is_own free is_made
+  pub stepped : HasRoom → Leaves → Step g clusters (Create path) m.stamp (Created m.file.number m.file.seq) c last
+  stepped low left = makings.made c g clusters v path m.stamp directory a m.name m.file own last k.has k.finds k.node (is_own low) (free low) (is_made left)
+
+-- ---- behind an index that has grown
+
+behind_takes : (c : Content) (g : Geometry) (clusters : ℕ) (v : Volume) (s : VolumeStreams) (numbers : Extents) (path : List (List ℕ)) (m : NewFile) (directory a : Node) (r : Record) (growths : List Growth) (u : Volume) (now : Record) (grown : List Touched) (more : ℕ) (value : List ℕ) (used : ℕ) (t : Tree) (fresh : List ℕ) (nodes : NodesPlan) (timed new : List Touched)
+    → TakesStepBehind c g clusters v s numbers path m directory a r growths u now grown more value used t fresh nodes timed new → Takes c g clusters v s numbers path m directory a r growths u now grown more value used t fresh nodes timed new
+behind_takes c g clusters v s numbers path m directory a r growths u now grown more value used t fresh nodes timed new k = record {
+  has = k.has;
+  finds = k.finds;
+  node = k.node;
+  by = k.by;
+  short = k.short;
+  least = k.least;
+  taken = k.taken;
+  enough = (let little = k.little in omega (arith, little));
+  level = k.level;
+}
+
+pub behind_steps : TimesAreSet → NewFileReads → FoundIsThere → MakingsAreSteps → MadeBehindAreSteps
+unfolding behind_takes
+behind_steps times_set reads there_is makings c g clusters v s numbers path m directory a r growths u now grown more value used t fresh nodes timed new k =
+    let takes : Takes c g clusters v s numbers path m directory a r growths u now grown more value used t fresh nodes timed new = behind_takes c g clusters v s numbers path m directory a r growths u now grown more value used t fresh nodes timed new k in
+    let same : growths ≡ (own times_set reads there_is makings c g clusters v s numbers path m directory a r growths u now grown more value used t fresh nodes timed new takes).growths =
+    (sym (k.comes (tree times_set reads there_is makings c g clusters v s numbers path m directory a r growths u now grown more value used t fresh nodes timed new takes) (has_root times_set reads there_is makings c g clusters v s numbers path m directory a r growths u now grown more value used t fresh nodes timed new takes))
+    ∙ ap (λ (l : List Growth). l ++ (spread_comes c v a.number r (tree times_set reads there_is makings c g clusters v s numbers path m directory a r growths u now grown more value used t fresh nodes timed new takes) more).growths) (sym (no_table times_set reads there_is makings c g clusters v s numbers path m directory a r growths u now grown more value used t fresh nodes timed new takes)))
+    in
+    stepped times_set reads there_is makings c g clusters v s numbers path m directory a r growths u now grown more value used t fresh nodes timed new takes
+    (k.room (tree times_set reads there_is makings c g clusters v s numbers path m directory a r growths u now grown more value used t fresh nodes timed new takes) (has_root times_set reads there_is makings c g clusters v s numbers path m directory a r growths u now grown more value used t fresh nodes timed new takes))
+    (subst (λ (l : List Growth). IsLeft c v clusters (m.file.number ∷ m.parent.number ∷ []) l (drafted new c) (made_volume c u s m now k.by.made.put.plan timed)) same (leaving.left times_set reads c g clusters v s numbers m a r growths u now grown value used t fresh nodes timed new k.by))
+
+-- ---- behind a draft that touched nothing
+
+file_takes : (c : Content) (g : Geometry) (clusters : ℕ) (v : Volume) (s : VolumeStreams) (numbers : Extents) (path : List (List ℕ)) (m : NewFile) (directory a : Node) (r : Record) (value : List ℕ) (t : Tree) (fresh : List ℕ) (nodes : NodesPlan) (timed new : List Touched)
+    → TakesStep c g clusters v s numbers path m directory a r value t fresh nodes timed new → Takes c g clusters v s numbers path m directory a r [] v r [] 0 value (used_of r.attrs) t fresh nodes timed new
+file_takes c g clusters v s numbers path m directory a r value t fresh nodes timed new k = record {
+  has = k.has;
+  finds = k.finds;
+  node = k.node;
+  by = behind_nothing c g clusters v s numbers m a r value (used_of r.attrs) t fresh nodes timed new [] k.by tt tt;
+  short = k.short;
+  least = omega arith;
+  taken = omega arith;
+  enough = omega arith;
+  level = λ up. absurd (both_ways _ k.flat up);
+}
 
 pub file_steps : TimesAreSet → NewFileReads → FoundIsThere → MakingsAreSteps → MadeFilesAreSteps
-file_steps times_set reads there_is makings c g clusters v s numbers path m directory a r value t fresh nodes timed new k = stepped times_set reads there_is makings c g clusters v s numbers path m directory a r value t fresh nodes timed new k
+unfolding file_takes behind_nothing
+file_steps times_set reads there_is makings c g clusters v s numbers path m directory a r value t fresh nodes timed new k =
+    let takes : Takes c g clusters v s numbers path m directory a r [] v r [] 0 value (used_of r.attrs) t fresh nodes timed new = file_takes c g clusters v s numbers path m directory a r value t fresh nodes timed new k in
+    let root = has_root times_set reads there_is makings c g clusters v s numbers path m directory a r [] v r [] 0 value (used_of r.attrs) t fresh nodes timed new takes in
+    let low = k.room (tree times_set reads there_is makings c g clusters v s numbers path m directory a r [] v r [] 0 value (used_of r.attrs) t fresh nodes timed new takes) root in
+    let plan : Plan = own times_set reads there_is makings c g clusters v s numbers path m directory a r [] v r [] 0 value (used_of r.attrs) t fresh nodes timed new takes in
+    let placed : AllPlaced (cluster_bits c v) plan.growths = plans_placed c v (Create path) 0 plan (is_plan times_set reads there_is makings c g clusters v s numbers path m directory a r [] v r [] 0 value (used_of r.attrs) t fresh nodes timed new takes low) in
+    let stay : AllByRecursion (StaysGrown v m.parent.number) plan.growths =
+    subst (λ (l : List Growth). AllByRecursion (StaysGrown v m.parent.number) (l ++ (spread_comes c v a.number r (tree times_set reads there_is makings c g clusters v s numbers path m directory a r [] v r [] 0 value (used_of r.attrs) t fresh nodes timed new takes) 0).growths))
+    (sym (no_table times_set reads there_is makings c g clusters v s numbers path m directory a r [] v r [] 0 value (used_of r.attrs) t fresh nodes timed new takes)) (k.stay (tree times_set reads there_is makings c g clusters v s numbers path m directory a r [] v r [] 0 value (used_of r.attrs) t fresh nodes timed new takes) root)
+    in
+    stepped times_set reads there_is makings c g clusters v s numbers path m directory a r [] v r [] 0 value (used_of r.attrs) t fresh nodes timed new takes low (file_leaves times_set reads c g clusters v s numbers m a r value (used_of r.attrs) t fresh nodes timed new plan.growths k.by placed stay)

@@ -1,4 +1,6 @@
 //! The laws of these definitions.
+ghost use Rattle.made_steps.specs.Behind.{MadeBehindAreSteps, RisesWhereNeeded};
+ghost use Rattle.made_steps.specs.Refused.{NotMadeIsStep};
 ghost use Rattle.made_steps.specs.Steps.{MadeFilesAreSteps};
 
 use made_trees::{found_is_there, makings_are_steps, new_file_reads, times_are_set};
@@ -13,3 +15,29 @@ pub fn made_files_are_steps()
     found_is_there();
     makings_are_steps();
 }
+
+/// Law: so it is where the draft has let the directory's index grow before, by the blocks that a step
+/// counts for it, and also with a level more, where one may be added.
+pub fn made_behind_are_steps()
+    ensures { MadeBehindAreSteps }
+{
+    times_are_set();
+    new_file_reads();
+    found_is_there();
+    makings_are_steps();
+}
+
+/// Law: where the directory's record would be too full, or its index too deep, an operation that was
+/// found to make a file is refused, and its content stays.
+pub fn not_made_is_step()
+    ensures { NotMadeIsStep }
+{
+    found_is_there();
+    makings_are_steps();
+}
+
+/// Law: where a plan of an index's nodes needs a level more for the used bytes that the directory's
+/// record has, a step allows one.
+pub fn rises_where_needed()
+    ensures { RisesWhereNeeded }
+{}

@@ -5,4 +5,4 @@
 
 mod laws;
 
-pub use laws::made_files_are_steps;
+pub use laws::{made_behind_are_steps, made_files_are_steps, not_made_is_step, rises_where_needed};

@@ -1,4 +1,4 @@
--- The edits of a new file, one behind the other, and the tree that they lead to.
+-- The edits of a new file, one behind the other, over a draft in which the index of its directory has grown, and the tree that they lead to.
 use Rattle.std.proofs.Common.{◌≡◌, ◌≢◌, ℕ, ◌+◌, ◌≤◌, Bool, true, false, ◌&&◌, cond, eqb, leb, ltb, List, [], ◌∷◌, ◌++◌, length, Option, Some, None, refl, sym, ap, subst, ◌∙◌, inl, inr, arith}
 use Rattle.std.specs.List.Sorted.{IsPermutation}
 use Rattle.std.specs.Option.{option_map}
@@ -53,12 +53,14 @@ use Rattle.written_values.specs.plan_edits.Records.{PutsRecordOf}
 use Rattle.made_files.proofs.plan_informed.Informed.{values_edit}
 use Rattle.made_files.specs.new_files.Laws.{ReadsNewFile, NewFileReads}
 use Rattle.written_values.specs.file_puts.declared.streams.VolumeStreams.{VolumeStreams}
-use Rattle.written_values.proofs.Joining.{nothing_put, nothing_kept, Reaches, begins, goes_behind, puts_record}
+use Rattle.written_values.proofs.Joining.{Reaches, goes_behind, puts_record}
 use Rattle.made_files.specs.file_makes.declared.newfile.NewFile.{NewFile}
 use Rattle.made_files.specs.file_makes.Making.{made_lsn, made_record}
 use Rattle.made_files.specs.Made.{made_link, rooted_directory, IsMadeEdit}
 use Rattle.made_files.proofs.Making.{file_made}
-use Rattle.made_trees.specs.Created.{timed_directory, timed_volume, made_volume, MakesFileBy, HasMadeFile, MadeFilesAreTrees}
+use Rattle.made_trees.specs.Behind.{MakesFileBehind, HasMadeFileBehind, MadeBehindAreTrees}
+use Rattle.made_trees.specs.Created.{timed_directory, timed_volume, made_volume}
+use Rattle.written_values.specs.step_model.Placing.{Growth, wanted_by}
 use Rattle.made_trees.proofs.Infos.{info_written, info_rooted, links_written, names_spared}
 
 -- ---- a node of a file
@@ -78,8 +80,8 @@ tree_spare : (c : Content) (v : Volume) (n : ℕ) → ref_at (tree_of c v).spare
 unfolding ref_at tree_of tree_with
 tree_spare c v n = spare_found c v n
 
-module _ (times_set : TimesAreSet) (reads : NewFileReads) (c : Content) (g : Geometry) (clusters : ℕ) (v : Volume) (s : VolumeStreams) (numbers : Extents) (m : NewFile) (a : Node) (r : Record) (value : List ℕ) (used : ℕ) (t : Tree) (fresh : List ℕ) (nodes : NodesPlan) (timed new : List Touched)
-    (k : MakesFileBy c g clusters v s numbers m a r value used t fresh nodes timed new) where
+module _ (times_set : TimesAreSet) (reads : NewFileReads) (c : Content) (g : Geometry) (clusters : ℕ) (v : Volume) (s : VolumeStreams) (numbers : Extents) (m : NewFile) (a : Node) (r : Record) (growths : List Growth) (u : Volume) (now : Record) (grown : List Touched) (value : List ℕ) (used : ℕ) (t : Tree) (fresh : List ℕ) (nodes : NodesPlan) (timed new : List Touched)
+    (k : MakesFileBehind c g clusters v s numbers m a r growths u now grown value used t fresh nodes timed new) where
   abbrev n : ℕ
   n = m.file.number
 
@@ -87,7 +89,7 @@ module _ (times_set : TimesAreSet) (reads : NewFileReads) (c : Content) (g : Geo
   dir = m.parent.number
 
   abbrev first : Content
-  first = drafted [] c
+  first = drafted grown c
 
   abbrev middle : Content
   middle = drafted timed c
@@ -96,64 +98,62 @@ module _ (times_set : TimesAreSet) (reads : NewFileReads) (c : Content) (g : Geo
   last = drafted new c
 
   abbrev p : Record
-  p = timed_record m.stamp r
+  p = timed_record m.stamp now
 
   abbrev q : Record
-  q = timed_directory m.stamp r
+  q = timed_directory m.stamp now
 
   abbrev x : Volume
-  x = timed_volume v m r
+  x = timed_volume u m now
 
   abbrev plan : DirPlan
   plan = k.made.put.plan
 
   abbrev z : Record
-  z = rooted_directory k.made.put.plan (timed_directory m.stamp r)
+  z = rooted_directory k.made.put.plan (timed_directory m.stamp now)
 
   abbrev f : Record
   f = made_record (drafted timed c) s.table m
 
   abbrev w : Volume
-  w = made_volume c v s m r k.made.put.plan timed
-
-  pub start : first ≡ c
-  start = nothing_put c k.sized
+  w = made_volume c u s m now k.made.put.plan timed
 
   pub first_sized : HasSizes first
-  first_sized = sized_with c (bodies_of []) k.sized
+  first_sized = sized_with c (bodies_of grown) k.sized
 
   pub middle_sized : HasSizes middle
   middle_sized = sized_with c (bodies_of timed) k.sized
 
-  pub first_stands : Stands first g clusters v
-  first_stands = subst (λ (y : Content). Stands y g clusters v) (sym start) k.stands
+  pub first_stands : Stands first g clusters u
+  first_stands = subst (λ (y : Content). Stands y g clusters u) k.before.content k.before.draft.stands
 
   -- ---- the times
 
-  pub anew : RewritesValues is_info r p
-  anew = times_set.rewritten m.stamp r k.info
+  pub anew : RewritesValues is_info now p
+  anew = times_set.rewritten m.stamp now k.info
 
-  puts : PutsRecordOf c v s.mirror dir p [] timed
-  puts = puts_record c v s dir p [] timed k.sized nothing_kept (per_is c g clusters v k.eight k.stands) k.streams.table k.streams.mirror k.times
+  puts : PutsRecordOf c u s.mirror dir p grown timed
+  puts = puts_record c u s dir p grown timed k.sized k.before.kept (per_is first g clusters u k.eight first_stands) k.streams.table k.streams.mirror k.times
 
-  pub edit : (bodies : List NewBody) × (EditsDraft c [] timed bodies × WritesValues first v dir r p q bodies)
-  edit = values_edit.times c g clusters v s.mirror dir r p [] timed first_stands k.own anew puts
+  pub edit : (bodies : List NewBody) × (EditsDraft c grown timed bodies × WritesValues first u dir now p q bodies)
+  edit = values_edit.times c g clusters u s.mirror dir now p grown timed first_stands k.before.own anew puts
+
+  reaches_grown : Reaches c g clusters v grown u
+  reaches_grown = record { gave = k.before.gave; bodies = k.before.bodies; same = k.before.same; content = k.before.content; draft = k.before.draft }
 
   reaches_times : Reaches c g clusters v timed x
-  reaches_times = goes_behind c g clusters v v x [] timed edit.0 k.sized k.eight k.stands (begins c g clusters v k.sized k.stands) edit.1.0 (λ gave clear. values_written.goes_on c v first g clusters v dir r p q edit.0 gave first_sized first_stands edit.1.1 clear)
+  reaches_times = goes_behind c g clusters v u x grown timed edit.0 k.sized k.eight k.stands reaches_grown edit.1.0 (λ gave clear. values_written.goes_on c v first g clusters u dir now p q edit.0 gave first_sized first_stands edit.1.1 clear)
 
   pub stands : Stands middle g clusters x
   stands = subst (λ (y : Content). Stands y g clusters x) reaches_times.content reaches_times.draft.stands
 
-  pub informed : InfoDiffers dir (info_of p) (tree_of c v) (tree_of middle x)
-  informed =
-      let there = subst (λ (y : Content). InfoDiffers dir (info_of p) (tree_of first v) (tree_of y x)) edit.1.0.content (values_written.times_alone first g clusters v dir r p q edit.0 first_sized first_stands edit.1.1 anew) in
-      subst (λ (y : Content). InfoDiffers dir (info_of p) (tree_of y v) (tree_of middle x)) start there
+  pub informed : InfoDiffers dir (info_of p) (tree_of first u) (tree_of middle x)
+  informed = subst (λ (y : Content). InfoDiffers dir (info_of p) (tree_of first u) (tree_of y x)) edit.1.0.content (values_written.times_alone first g clusters u dir now p q edit.0 first_sized first_stands edit.1.1 anew)
 
   -- ---- the names stay
 
   dir_x : file_in x dir ≡ Some q
-  dir_x = (files_going.written first g clusters v dir r p q edit.0 first_sized first_stands edit.1.1).own.file
+  dir_x = (files_going.written first g clusters u dir now p q edit.0 first_sized first_stands edit.1.1).own.file
 
   names_same : (i : ℕ) → links_at (files_by_number x) i ≡ links_at (files_by_number v) i
   unfolding links_at
@@ -162,14 +162,15 @@ module _ (times_set : TimesAreSet) (reads : NewFileReads) (c : Content) (g : Geo
         ap (λ (j : ℕ). file_links j (file_in x j)) is
         ∙ ap (file_links dir) dir_x
         ∙ links_written dir p
-        ∙ same_links is_info dir r p anew names_spared
+        ∙ same_links is_info dir now p anew names_spared
+        ∙ k.before.names
         ∙ sym (ap (λ (j : ℕ). file_links j (file_in v j)) is ∙ ap (file_links dir) k.own.file)
-    | inr other ↦ ap (file_links i) (elsewhere v dir i q other)
+    | inr other ↦ ap (file_links i) (elsewhere u dir i q other ∙ k.before.others i other)
   ]
 
   count_same : count_of x ≡ count_of v
   unfolding tree_of tree_with
-  count_same = informed.count
+  count_same = informed.count ∙ k.before.tree.count
 
   outside : is_in_system (files_by_number x) (count_of x) dir ≡ false
   outside =
@@ -204,9 +205,9 @@ module _ (times_set : TimesAreSet) (reads : NewFileReads) (c : Content) (g : Geo
   a_number : dir ≡ a.number
   a_number = ap (λ (ref : FileRef). ref.number) k.referred
 
-  a_is : node_by (bytes_or c v.per) v dir r ≡ a
+  a_is : node_by (bytes_or first u.per) u dir now ≡ a
   unfolding node_at
-  a_is = own_node (is_nameless dir r) a (node_by (bytes_or c v.per) v dir r) (ap (some_node (bytes_or c v.per) v dir) (sym k.own.file) ∙ sym (tree_nodes c v dir) ∙ k.node)
+  a_is = own_node (is_nameless dir now) a (node_by (bytes_or first u.per) u dir now) (ap (some_node (bytes_or first u.per) u dir) (sym k.before.own.file) ∙ sym (tree_nodes first u dir) ∙ k.before.tree.nodes dir ∙ k.node)
 
   same_info : info_of z ≡ info_of p
   same_info = info_written _ ∙ info_rooted k.made.put.plan.root q ∙ info_written p
@@ -215,14 +216,14 @@ module _ (times_set : TimesAreSet) (reads : NewFileReads) (c : Content) (g : Geo
   now_renewed =
       ap (λ (i : StdInfo). with_info i a) same_info
       ∙ ap (with_info (info_of p)) (sym a_is)
-      ∙ times_set.node m.stamp dir r v (bytes_or c v.per) k.made.fields.stamp_small k.fits
+      ∙ times_set.node m.stamp dir now u (bytes_or first u.per) k.made.fields.stamp_small k.fits
       ∙ ap (λ (y : Node). renewed y m.stamp) a_is
 
   at_file : node_by_number (tree_of last w).nodes n ≡ Some (new_file m.file m.stamp)
   at_file = created.made ∙ ap Some (reads_file.node (bytes_or last w.per) w (created.system ∙ outside) refl)
 
   at_directory : node_by_number (tree_of last w).nodes dir ≡ Some (renewed a m.stamp)
-  at_directory = created.directory ∙ ap (option_map (with_info (info_of z))) (informed.node ∙ ap (option_map (with_info (info_of p))) k.node) ∙ ap Some now_renewed
+  at_directory = created.directory ∙ ap (option_map (with_info (info_of z))) (informed.node ∙ ap (option_map (with_info (info_of p))) (k.before.tree.nodes dir ∙ k.node)) ∙ ap Some now_renewed
 
   node_there : (i : ℕ) → node_by_number (tree_of last w).nodes i ≡ with_node (new_file m.file m.stamp) (with_node (renewed a m.stamp) (node_by_number (tree_of c v).nodes)) i
   unfolding new_file changed_node
@@ -236,7 +237,7 @@ module _ (times_set : TimesAreSet) (reads : NewFileReads) (c : Content) (g : Geo
           ∙ sym (ap (λ (b : Bool). cond b (Some (new_file m.file m.stamp)) (with_node (renewed a m.stamp) (node_by_number (tree_of c v).nodes) i)) (ne_eqb i n not_file)
           ∙ ap (λ (b : Bool). cond b (Some (renewed a m.stamp)) (node_by_number (tree_of c v).nodes i)) (eq-eqb i a.number (is ∙ a_number)))
       | inr not_directory ↦
-          created.others i not_file not_directory ∙ informed.others i not_directory
+          created.others i not_file not_directory ∙ informed.others i not_directory ∙ k.before.tree.nodes i
           ∙ sym (ap (λ (b : Bool). cond b (Some (new_file m.file m.stamp)) (with_node (renewed a m.stamp) (node_by_number (tree_of c v).nodes) i)) (ne_eqb i n not_file)
           ∙ ap (λ (b : Bool). cond b (Some (renewed a m.stamp)) (node_by_number (tree_of c v).nodes i)) (ne_eqb i a.number (λ same. not_directory (same ∙ sym a_number))))
     ]
@@ -288,7 +289,7 @@ module _ (times_set : TimesAreSet) (reads : NewFileReads) (c : Content) (g : Geo
       ∙ was_clear.1
 
   pub some_left : eqb (length (tree_of c v).spare) 0 ≡ false
-  some_left = some_spare (tree_of c v).spare n was_clear.0 (ap (λ (l : List FileRef). ref_at l n) (sym informed.spare) ∙ was_spare)
+  some_left = some_spare (tree_of c v).spare n was_clear.0 (ap (λ (l : List FileRef). ref_at l n) (sym (informed.spare ∙ k.before.tree.spare)) ∙ was_spare)
 
   to_take : numbers_to_take (tree_of c v) ≡ (tree_of c v).spare
   to_take = ap (λ (b : Bool). cond b (new_numbers (tree_of c v).count) (tree_of c v).spare) some_left
@@ -300,7 +301,7 @@ module _ (times_set : TimesAreSet) (reads : NewFileReads) (c : Content) (g : Geo
         ∙ sym (ap (λ (b : Bool). cond b None (ref_at (numbers_to_take (tree_of c v)) i)) (eq-eqb i n is))
     | inr not_file ↦
         tree_spare last w i ∙ spare_by i not_file ∙ sym (tree_spare middle x i)
-        ∙ ap (λ (l : List FileRef). ref_at l i) (informed.spare ∙ sym to_take)
+        ∙ ap (λ (l : List FileRef). ref_at l i) (informed.spare ∙ k.before.tree.spare ∙ sym to_take)
         ∙ sym (ap (λ (b : Bool). cond b None (ref_at (numbers_to_take (tree_of c v)) i)) (ne_eqb i n not_file))
   ]
 
@@ -315,7 +316,7 @@ module _ (times_set : TimesAreSet) (reads : NewFileReads) (c : Content) (g : Geo
       let front : List Link = parts.front in
       let behind : List Link = parts.behind in
       let all : IsPermutation (made_link m ∷ (front ++ behind)) (front ++ made_link m ∷ behind) = IsPermutation-sym _ _ (IsPermutation-middle front (made_link m) behind) in
-      let old : front ++ behind ≡ (tree_of c v).links = sym parts.was ∙ informed.links in
+      let old : front ++ behind ≡ (tree_of c v).links = sym parts.was ∙ informed.links ∙ k.before.tree.links in
       subst (λ (l : List Link). IsPermutation (new_link a m.name m.file ∷ (tree_of c v).links) l) (sym parts.is)
       (subst (λ (l : List Link). IsPermutation (new_link a m.name m.file ∷ l) (front ++ made_link m ∷ behind)) old
       (subst (λ (l : Link). IsPermutation (l ∷ (front ++ behind)) (front ++ made_link m ∷ behind)) same_link all))
@@ -323,23 +324,23 @@ module _ (times_set : TimesAreSet) (reads : NewFileReads) (c : Content) (g : Geo
   -- ---- the tree
 
   count_there : (tree_of last w).count ≡ count_to_take (tree_of c v)
-  count_there = created.count ∙ informed.count ∙ sym (ap (λ (b : Bool). cond b ((tree_of c v).count + more_records) (tree_of c v).count) some_left)
+  count_there = created.count ∙ informed.count ∙ k.before.tree.count ∙ sym (ap (λ (b : Bool). cond b ((tree_of c v).count + more_records) (tree_of c v).count) some_left)
 
-  tree_there : (most : ℕ) → HasCreated (tree_of c v) most m.stamp a m.name m.file (tree_of last w)
-  tree_there most = record {
+  tree_there : (most : ℕ) → wanted_by growths ≤ most → HasCreated (tree_of c v) most m.stamp a m.name m.file (tree_of last w)
+  tree_there most enough = record {
     node = node_there;
     spare = spare_there;
     links = links_there;
     count = count_there;
-    journal = created.journal ∙ informed.journal;
-    room = (let one = created.room in let two = informed.room in omega (arith, one, two));
+    journal = created.journal ∙ informed.journal ∙ k.before.tree.journal;
+    room = (let one = created.room in let two = informed.room in let fell = k.before.room in omega (arith, one, two, fell, enough));
   }
 
-  pub has_made_file : HasMadeFile c g clusters v m a new w
+  pub has_made_file : HasMadeFileBehind c g clusters v m a growths new w
   has_made_file = record { gave = reaches.gave; bodies = reaches.bodies; same = reaches.same; content = reaches.content; draft = reaches.draft; tree = tree_there }
 
-pub file_is_there : TimesAreSet → NewFileReads → MadeFilesAreTrees
-file_is_there times_set reads c g clusters v s numbers m a r value used t fresh nodes timed new k = (
-  made times_set reads c g clusters v s numbers m a r value used t fresh nodes timed new k,
-  has_made_file times_set reads c g clusters v s numbers m a r value used t fresh nodes timed new k,
+pub behind_is_there : TimesAreSet → NewFileReads → MadeBehindAreTrees
+behind_is_there times_set reads c g clusters v s numbers m a r growths u now grown value used t fresh nodes timed new k = (
+  made times_set reads c g clusters v s numbers m a r growths u now grown value used t fresh nodes timed new k,
+  has_made_file times_set reads c g clusters v s numbers m a r growths u now grown value used t fresh nodes timed new k,
 )

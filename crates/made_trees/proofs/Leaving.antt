@@ -1,5 +1,5 @@
--- What a new file leaves: the runs of all streams, and all bodies but those that it puts.
-use Rattle.std.proofs.Common.{◌≡◌, ◌≢◌, ◌⊎◌, ℕ, ◌<◌, Bool, true, false, not, ◌&&◌, ◌||◌, eqb, nat_eq, List, [], ◌∷◌, ◌++◌, Option, Some, None, refl, sym, ap, subst, ◌∙◌, inl, inr, arith}
+-- What a new file leaves behind a draft in which the index of its directory has grown: the runs of all streams, and all bodies but those that it puts.
+use Rattle.std.proofs.Common.{◌≡◌, ◌≢◌, ◌⊎◌, ℕ, ◌<◌, Bool, true, false, not, ◌&&◌, ◌||◌, eqb, nat_eq, List, [], ◌∷◌, ◌++◌, Option, Some, None, refl, sym, ap, subst, ◌∙◌, inl, inr}
 use Rattle.std.specs.Prelude.{All}
 use Rattle.std.specs.List.{flat_map, list_any, AllByRecursion}
 use Rattle.std.specs.Cmp.Lexicographic.{pointwise}
@@ -29,7 +29,7 @@ use Rattle.stream_laws.specs.Replacing.{FileEdit, AreEdits}
 use Rattle.stream_laws.specs.Rewrites.{is_edited}
 use Rattle.stream_laws.specs.Sharing.{StreamKey, stream_at, runs_in}
 use Rattle.stream_laws.specs.Tables.{table_key}
-use Rattle.stream_laws.proofs.Editing.{edited_files}
+use Rattle.stream_laws.proofs.Editing.{edited_files, length-with_edits}
 use Rattle.stream_laws.proofs.Tabling.{inside_list}
 use Rattle.tree_laws.specs.Planned.{IsInRecord}
 use Rattle.tree_laws.proofs.Ascending.{all_by}
@@ -60,7 +60,7 @@ use Rattle.made_files.specs.plan_growth.Streams.{marks_streams}
 use Rattle.written_values.specs.plan_changes.Going.{StandsAs}
 use Rattle.written_values.proofs.plan_changes.Going.{files_going}
 use Rattle.made_files.specs.new_files.Laws.{NewFileReads}
-use Rattle.written_values.specs.step_model.Placing.{Growth, AllPlaced}
+use Rattle.written_values.specs.step_model.Placing.{Growth}
 use Rattle.written_values.specs.step_model.Streams.{blocks_key, used_key}
 use Rattle.written_values.specs.step_model.Used.{is_in_record}
 use Rattle.written_values.specs.step_model.Contents.{same_key, is_touched, touched_streams, HasGrown, MayDiffer, IsLeft}
@@ -70,9 +70,10 @@ use Rattle.written_values.proofs.Sparing.{elsewhere}
 use Rattle.made_files.specs.file_makes.declared.newfile.NewFile.{NewFile}
 use Rattle.made_files.specs.file_makes.Making.{made_record}
 use Rattle.made_files.specs.Made.{rooted_directory, IsMadeEdit}
-use Rattle.made_trees.specs.Created.{timed_directory, timed_volume, made_volume, MakesFileBy}
-use Rattle.made_trees.specs.Left.{StaysGrown, MadeFilesAreLeft}
-use Rattle.made_trees.proofs.Going.{start, first_sized, middle_sized, first_stands, anew, edit, stands, made, reaches}
+use Rattle.made_trees.specs.Created.{timed_directory, timed_volume, made_volume}
+use Rattle.made_trees.specs.Grown.{IsOfIndex}
+use Rattle.made_trees.specs.Behind.{MakesFileBehind, MadeBehindAreLeft}
+use Rattle.made_trees.proofs.Going.{first_sized, middle_sized, first_stands, anew, edit, stands, made, reaches}
 
 -- ---- a record without clusters
 
@@ -129,8 +130,14 @@ chosen_by files t there other = and_from (is_touched files t.file) (not (same_ke
 among_files : (n : ℕ) (files : List ℕ) → list_any (λ (m : ℕ). eqb n m) files ≡ true → is_touched files n ≡ true
 among_files n files there = or_right _ (list_any (λ (m : ℕ). eqb n m) files) there
 
-module _ (times_set : TimesAreSet) (reads : NewFileReads) (c : Content) (g : Geometry) (clusters : ℕ) (v : Volume) (s : VolumeStreams) (numbers : Extents) (m : NewFile) (a : Node) (r : Record) (value : List ℕ) (used : ℕ) (t : Tree) (fresh : List ℕ) (nodes : NodesPlan) (timed new : List Touched) (growths : List Growth)
-    (k : MakesFileBy c g clusters v s numbers m a r value used t fresh nodes timed new) (placed : AllPlaced (cluster_bits c v) growths) (stay : AllByRecursion (StaysGrown v m.parent.number) growths) where
+one_more : (n m i : ℕ) → is_touched (m ∷ []) i ≡ true → is_touched (n ∷ m ∷ []) i ≡ true
+one_more n m i touched = elim (or_cases (eqb i table_file || eqb i mirror_file || eqb i bitmap_file) (list_any (λ (j : ℕ). eqb i j) (m ∷ [])) touched) [
+  | inl own ↦ or_left _ (list_any (λ (j : ℕ). eqb i j) (n ∷ m ∷ [])) own
+  | inr among ↦ among_files i (n ∷ m ∷ []) (or_right (eqb i n) (list_any (λ (j : ℕ). eqb i j) (m ∷ [])) among)
+]
+
+module _ (times_set : TimesAreSet) (reads : NewFileReads) (c : Content) (g : Geometry) (clusters : ℕ) (v : Volume) (s : VolumeStreams) (numbers : Extents) (m : NewFile) (a : Node) (r : Record) (growths : List Growth) (u : Volume) (now : Record) (grown : List Touched) (value : List ℕ) (used : ℕ) (t : Tree) (fresh : List ℕ) (nodes : NodesPlan) (timed new : List Touched)
+    (k : MakesFileBehind c g clusters v s numbers m a r growths u now grown value used t fresh nodes timed new) where
   abbrev n : ℕ
   n = m.file.number
 
@@ -141,7 +148,7 @@ module _ (times_set : TimesAreSet) (reads : NewFileReads) (c : Content) (g : Geo
   files = m.file.number ∷ m.parent.number ∷ []
 
   abbrev first : Content
-  first = drafted [] c
+  first = drafted grown c
 
   abbrev middle : Content
   middle = drafted timed c
@@ -150,46 +157,46 @@ module _ (times_set : TimesAreSet) (reads : NewFileReads) (c : Content) (g : Geo
   last = drafted new c
 
   abbrev p : Record
-  p = timed_record m.stamp r
+  p = timed_record m.stamp now
 
   abbrev q : Record
-  q = timed_directory m.stamp r
+  q = timed_directory m.stamp now
 
   abbrev x : Volume
-  x = timed_volume v m r
+  x = timed_volume u m now
 
   abbrev z : Record
-  z = rooted_directory k.made.put.plan (timed_directory m.stamp r)
+  z = rooted_directory k.made.put.plan (timed_directory m.stamp now)
 
   abbrev f : Record
   f = made_record (drafted timed c) s.table m
 
   abbrev w : Volume
-  w = made_volume c v s m r k.made.put.plan timed
+  w = made_volume c u s m now k.made.put.plan timed
 
   abbrev edits : List FileEdit
-  edits = made_edits m.file.number (made_record (drafted timed c) s.table m) m.parent.number (rooted_directory k.made.put.plan (timed_directory m.stamp r))
+  edits = made_edits m.file.number (made_record (drafted timed c) s.table m) m.parent.number (rooted_directory k.made.put.plan (timed_directory m.stamp now))
 
-  pub one : (bodies : List NewBody) × (EditsDraft c [] timed bodies × WritesValues first v dir r p q bodies)
-  one = edit times_set reads c g clusters v s numbers m a r value used t fresh nodes timed new k
+  pub one : (bodies : List NewBody) × (EditsDraft c grown timed bodies × WritesValues first u dir now p q bodies)
+  one = edit times_set reads c g clusters v s numbers m a r growths u now grown value used t fresh nodes timed new k
 
   pub two : IsMadeEdit c x s m q value used t fresh k.made.put.plan timed new
-  two = made times_set reads c g clusters v s numbers m a r value used t fresh nodes timed new k
+  two = made times_set reads c g clusters v s numbers m a r growths u now grown value used t fresh nodes timed new k
 
   pub sized_first : HasSizes first
-  sized_first = first_sized times_set reads c g clusters v s numbers m a r value used t fresh nodes timed new k
+  sized_first = first_sized times_set reads c g clusters v s numbers m a r growths u now grown value used t fresh nodes timed new k
 
   pub sized_middle : HasSizes middle
-  sized_middle = middle_sized times_set reads c g clusters v s numbers m a r value used t fresh nodes timed new k
+  sized_middle = middle_sized times_set reads c g clusters v s numbers m a r growths u now grown value used t fresh nodes timed new k
 
   pub state_x : Stands middle g clusters x
-  state_x = stands times_set reads c g clusters v s numbers m a r value used t fresh nodes timed new k
+  state_x = stands times_set reads c g clusters v s numbers m a r growths u now grown value used t fresh nodes timed new k
 
-  pub rewritten : RewritesValues is_info r p
-  rewritten = anew times_set reads c g clusters v s numbers m a r value used t fresh nodes timed new k
+  pub rewritten : RewritesValues is_info now p
+  rewritten = anew times_set reads c g clusters v s numbers m a r growths u now grown value used t fresh nodes timed new k
 
-  pub stands_as : StandsAs v dir p q
-  stands_as = files_going.written first g clusters v dir r p q one.0 sized_first (first_stands times_set reads c g clusters v s numbers m a r value used t fresh nodes timed new k) one.1.1
+  pub stands_as : StandsAs u dir p q
+  stands_as = files_going.written first g clusters u dir now p q one.0 sized_first (first_stands times_set reads c g clusters v s numbers m a r growths u now grown value used t fresh nodes timed new k) one.1.1
 
   -- ---- the files
 
@@ -213,8 +220,8 @@ module _ (times_set : TimesAreSet) (reads : NewFileReads) (c : Content) (g : Geo
   apart : n ≢ dir
   apart same = clash (file_in x n) none_x (ap (file_in x) same ∙ dir_x)
 
-  none_v : file_in v n ≡ None
-  none_v = sym (elsewhere v dir n q apart) ∙ none_x
+  none_u : file_in u n ≡ None
+  none_u = sym (elsewhere u dir n q apart) ∙ none_x
 
   distinct : AreEdits (count_of x) edits
   distinct = (two.makes.within, ((λ same. apart (sym same)), tt), (dir_below, tt, tt))
@@ -230,68 +237,72 @@ module _ (times_set : TimesAreSet) (reads : NewFileReads) (c : Content) (g : Geo
   unfolding file_at
   dir_w = as_file (table_in w.files dir) z (edited_files x.files edits distinct).1.0 base_z
 
-  pub others_w : (i : ℕ) → i ≢ n → i ≢ dir → file_in w i ≡ file_in v i
-  others_w i other more = elsewhere (with_record x n f) dir i z more ∙ elsewhere x n i f other ∙ elsewhere v dir i q more
+  pub others_w : (i : ℕ) → i ≢ n → i ≢ dir → file_in w i ≡ file_in u i
+  others_w i other more = elsewhere (with_record x n f) dir i z more ∙ elsewhere x n i f other ∙ elsewhere u dir i q more
 
   -- ---- the streams
 
-  x_runs : (u : StreamKey) → runs_in (stream_at x u) ≡ runs_in (stream_at v u)
-  x_runs u = elim (cases_eq u.file dir) [
+  -- a stream of the directory's record where its index has grown
+  in_u : (o : StreamKey) → o.file ≡ dir → file_stream o.kind o.name (Some now) ≡ stream_at u o
+  in_u o is = sym (ap (λ (i : ℕ). file_stream o.kind o.name (file_in u i)) is ∙ ap (file_stream o.kind o.name) k.before.own.file)
+
+  x_runs : (o : StreamKey) → runs_in (stream_at x o) ≡ runs_in (stream_at u o)
+  x_runs o = elim (cases_eq o.file dir) [
     | inl is ↦
-        ap (λ (i : ℕ). runs_in (file_stream u.kind u.name (file_in x i))) is
-        ∙ ap (λ (o : Option Record). runs_in (file_stream u.kind u.name o)) dir_x
-        ∙ ap runs_in (stands_as.streams u.kind u.name)
-        ∙ same_runs is_info r p u.kind u.name rewritten
-        ∙ sym (ap (λ (i : ℕ). runs_in (file_stream u.kind u.name (file_in v i))) is ∙ ap (λ (o : Option Record). runs_in (file_stream u.kind u.name o)) k.own.file)
-    | inr other ↦ ap (λ (o : Option Record). runs_in (file_stream u.kind u.name o)) (elsewhere v dir u.file q other)
+        ap (λ (i : ℕ). runs_in (file_stream o.kind o.name (file_in x i))) is
+        ∙ ap (λ (y : Option Record). runs_in (file_stream o.kind o.name y)) dir_x
+        ∙ ap runs_in (stands_as.streams o.kind o.name)
+        ∙ same_runs is_info now p o.kind o.name rewritten
+        ∙ ap runs_in (in_u o is)
+    | inr other ↦ ap (λ (y : Option Record). runs_in (file_stream o.kind o.name y)) (elsewhere u dir o.file q other)
   ]
 
-  w_runs : (u : StreamKey) → runs_in (stream_at w u) ≡ runs_in (stream_at v u)
-  w_runs u = elim (cases_eq u.file n) [
+  w_runs : (o : StreamKey) → runs_in (stream_at w o) ≡ runs_in (stream_at u o)
+  w_runs o = elim (cases_eq o.file n) [
     | inl is ↦
-        ap (λ (i : ℕ). runs_in (file_stream u.kind u.name (file_in w i))) is
-        ∙ ap (λ (o : Option Record). runs_in (file_stream u.kind u.name o)) file_w
-        ∙ no_runs f u.kind u.name two.makes.no_clusters
-        ∙ sym (ap (λ (i : ℕ). runs_in (file_stream u.kind u.name (file_in v i))) is ∙ ap (λ (o : Option Record). runs_in (file_stream u.kind u.name o)) none_v)
-    | inr other ↦ elim (cases_eq u.file dir) [
+        ap (λ (i : ℕ). runs_in (file_stream o.kind o.name (file_in w i))) is
+        ∙ ap (λ (y : Option Record). runs_in (file_stream o.kind o.name y)) file_w
+        ∙ no_runs f o.kind o.name two.makes.no_clusters
+        ∙ sym (ap (λ (i : ℕ). runs_in (file_stream o.kind o.name (file_in u i))) is ∙ ap (λ (y : Option Record). runs_in (file_stream o.kind o.name y)) none_u)
+    | inr other ↦ elim (cases_eq o.file dir) [
       | inl is ↦
-          ap (λ (i : ℕ). runs_in (file_stream u.kind u.name (file_in w i))) is
-          ∙ ap (λ (o : Option Record). runs_in (file_stream u.kind u.name o)) dir_w
-          ∙ same_runs is_info_or_root q z u.kind u.name two.makes.values
-          ∙ ap runs_in (stands_as.streams u.kind u.name)
-          ∙ same_runs is_info r p u.kind u.name rewritten
-          ∙ sym (ap (λ (i : ℕ). runs_in (file_stream u.kind u.name (file_in v i))) is ∙ ap (λ (o : Option Record). runs_in (file_stream u.kind u.name o)) k.own.file)
-      | inr more ↦ ap (λ (o : Option Record). runs_in (file_stream u.kind u.name o)) (others_w u.file other more)
+          ap (λ (i : ℕ). runs_in (file_stream o.kind o.name (file_in w i))) is
+          ∙ ap (λ (y : Option Record). runs_in (file_stream o.kind o.name y)) dir_w
+          ∙ same_runs is_info_or_root q z o.kind o.name two.makes.values
+          ∙ ap runs_in (stands_as.streams o.kind o.name)
+          ∙ same_runs is_info now p o.kind o.name rewritten
+          ∙ ap runs_in (in_u o is)
+      | inr more ↦ ap (λ (y : Option Record). runs_in (file_stream o.kind o.name y)) (others_w o.file other more)
     ]
   ]
 
   -- a stream of the directory's index is the same
-  dir_stream : (kind : ℕ) (name : List ℕ) → (eqb kind standard_information || eqb kind index_root) ≡ false → eqb kind standard_information ≡ false → stream_at w (record { file = dir; kind = kind; name = name }) ≡ stream_at v (record { file = dir; kind = kind; name = name })
+  dir_stream : (kind : ℕ) (name : List ℕ) → (eqb kind standard_information || eqb kind index_root) ≡ false → eqb kind standard_information ≡ false → stream_at w (record { file = dir; kind = kind; name = name }) ≡ stream_at u (record { file = dir; kind = kind; name = name })
   dir_stream kind name neither other =
       ap (file_stream kind name) dir_w
       ∙ same_stream is_info_or_root q z kind name two.makes.values (spared_both kind name neither)
       ∙ stands_as.streams kind name
-      ∙ same_stream is_info r p kind name rewritten (spared kind name other)
-      ∙ sym (ap (file_stream kind name) k.own.file)
+      ∙ same_stream is_info now p kind name rewritten (spared kind name other)
+      ∙ in_u (record { file = dir; kind = kind; name = name }) refl
 
-  index_stream_is : (u : StreamKey) → (u ≡ blocks_key dir) ⊎ (u ≡ used_key dir) → stream_at w u ≡ stream_at v u
-  index_stream_is u (inl is) = ap (stream_at w) is ∙ dir_stream index_allocation names_index refl refl ∙ sym (ap (stream_at v) is)
-  index_stream_is u (inr is) = ap (stream_at w) is ∙ dir_stream bitmap_type names_index refl refl ∙ sym (ap (stream_at v) is)
+  index_stream_is : (o : StreamKey) → (o ≡ blocks_key dir) ⊎ (o ≡ used_key dir) → stream_at w o ≡ stream_at u o
+  index_stream_is o (inl is) = ap (stream_at w) is ∙ dir_stream index_allocation names_index refl refl ∙ sym (ap (stream_at u) is)
+  index_stream_is o (inr is) = ap (stream_at w) is ∙ dir_stream bitmap_type names_index refl refl ∙ sym (ap (stream_at u) is)
 
-  all_grown : (l : List Growth) → AllByRecursion (StaysGrown v dir) l → AllByRecursion (λ h. HasGrown v w h) l
-  all_grown [] all = tt
-  all_grown (h ∷ l) all = (
+  all_grown : (l : List Growth) → AllByRecursion (IsOfIndex dir) l → AllByRecursion (λ h. HasGrown v u h) l → AllByRecursion (λ h. HasGrown v w h) l
+  all_grown [] streams all = tt
+  all_grown (h ∷ l) streams all = (
     record {
-      stands = ap is_in_record (index_stream_is h.stream all.0.0) ∙ all.0.1.stands;
-      old = all.0.1.old;
-      runs = w_runs h.stream ∙ all.0.1.runs;
+      stands = ap is_in_record (index_stream_is h.stream streams.0) ∙ all.0.stands;
+      old = all.0.old;
+      runs = w_runs h.stream ∙ all.0.runs;
     },
-    all_grown l all.1,
+    all_grown l streams.1 all.1,
   )
 
   -- ---- the blocks
 
-  in_record : (i : ℕ) (b : Block) → is_touched files i ≡ true → block_at v.per v.table.runs FileRec i ≡ Some b → MayDiffer files v w b
+  in_record : (i : ℕ) (b : Block) → is_touched files i ≡ true → block_at u.per u.table.runs FileRec i ≡ Some b → MayDiffer files v w b
   in_record i b there lies = inl (record { number = i; touched = inl there; place = lies })
 
   file_touched : is_touched files n ≡ true
@@ -300,67 +311,90 @@ module _ (times_set : TimesAreSet) (reads : NewFileReads) (c : Content) (g : Geo
   dir_touched : is_touched files dir ≡ true
   dir_touched = among_files dir files (or_right (eqb dir n) (eqb dir dir || false) (or_left (eqb dir dir) false (eq-eqb dir dir refl)))
 
-  in_stream : (u : StreamKey) (number : ℕ) (b : Block) → is_touched files u.file ≡ true → same_key u table_key ≡ false → block_at v.per (runs_in (stream_at v u)) (stream_kind u) number ≡ Some b → MayDiffer files v w b
-  in_stream u number b there other lies = inr (inl (record { stream = u; chosen = chosen_by files u there other; number = number; lies = lies }))
+  in_stream : (o : StreamKey) (number : ℕ) (b : Block) → is_touched files o.file ≡ true → same_key o table_key ≡ false → block_at u.per (runs_in (stream_at u o)) (stream_kind o) number ≡ Some b → MayDiffer files v w b
+  in_stream o number b there other lies =
+      inr (inr (record { stream = o; chosen = chosen_by files o there other; number = number; lies = ap (λ (l : List Run). block_at u.per l (stream_kind o) number) (w_runs o) ∙ lies }))
 
   owned_x : (b : Block) → IsOwnedIn (made_streams dir) x b → MayDiffer files v w b
   owned_x b owned =
-      let u : StreamKey = owned.stream in
-      let lies : block_at v.per (runs_in (stream_at v u)) (stream_kind u) owned.number ≡ Some b = ap (λ (l : List Run). block_at v.per l (stream_kind u) owned.number) (sym (x_runs u)) ∙ owned.lies in
-      elim (or_cases (eqb u.file table_file && eqb u.kind bitmap_type) (eqb u.file dir && eqb u.kind index_allocation) owned.chosen) [
+      let o : StreamKey = owned.stream in
+      let lies : block_at u.per (runs_in (stream_at u o)) (stream_kind o) owned.number ≡ Some b = ap (λ (l : List Run). block_at u.per l (stream_kind o) owned.number) (sym (x_runs o)) ∙ owned.lies in
+      elim (or_cases (eqb o.file table_file && eqb o.kind bitmap_type) (eqb o.file dir && eqb o.kind index_allocation) owned.chosen) [
         | inl bits ↦
-            (let parts = and_parts (eqb u.file table_file) (eqb u.kind bitmap_type) bits in
-            in_stream u owned.number b (ap (is_touched files) (eqb-true u.file table_file parts.0)) (no_data u (ap (λ (i : ℕ). eqb i data_type) (eqb-true u.kind bitmap_type parts.1))) lies)
+            (let parts = and_parts (eqb o.file table_file) (eqb o.kind bitmap_type) bits in
+            in_stream o owned.number b (ap (is_touched files) (eqb-true o.file table_file parts.0)) (no_data o (ap (λ (i : ℕ). eqb i data_type) (eqb-true o.kind bitmap_type parts.1))) lies)
         | inr blocks ↦
-            (let parts = and_parts (eqb u.file dir) (eqb u.kind index_allocation) blocks in
-            in_stream u owned.number b (ap (is_touched files) (eqb-true u.file dir parts.0) ∙ dir_touched) (no_data u (ap (λ (i : ℕ). eqb i data_type) (eqb-true u.kind index_allocation parts.1))) lies)
+            (let parts = and_parts (eqb o.file dir) (eqb o.kind index_allocation) blocks in
+            in_stream o owned.number b (ap (is_touched files) (eqb-true o.file dir parts.0) ∙ dir_touched) (no_data o (ap (λ (i : ℕ). eqb i data_type) (eqb-true o.kind index_allocation parts.1))) lies)
       ]
 
-  owned_v : (b : Block) → IsOwnedIn marks_streams v b → MayDiffer files v w b
-  owned_v b owned =
-      let u : StreamKey = owned.stream in
-      let which = (and_parts (eqb u.file bitmap_file || eqb u.file mirror_file) (eqb u.kind data_type) (and_parts ((eqb u.file bitmap_file || eqb u.file mirror_file) && eqb u.kind data_type) (pointwise nat_eq u.name []) owned.chosen).0).0 in
-      elim (or_cases (eqb u.file bitmap_file) (eqb u.file mirror_file) which) [
-        | inl bits ↦ (let file = eqb-true u.file bitmap_file bits in in_stream u owned.number b (ap (is_touched files) file) (no_table u (ap (λ (i : ℕ). eqb i table_file) file)) owned.lies)
-        | inr mirror ↦ (let file = eqb-true u.file mirror_file mirror in in_stream u owned.number b (ap (is_touched files) file) (no_table u (ap (λ (i : ℕ). eqb i table_file) file)) owned.lies)
+  owned_u : (b : Block) → IsOwnedIn marks_streams u b → MayDiffer files v w b
+  owned_u b owned =
+      let o : StreamKey = owned.stream in
+      let which = (and_parts (eqb o.file bitmap_file || eqb o.file mirror_file) (eqb o.kind data_type) (and_parts ((eqb o.file bitmap_file || eqb o.file mirror_file) && eqb o.kind data_type) (pointwise nat_eq o.name []) owned.chosen).0).0 in
+      elim (or_cases (eqb o.file bitmap_file) (eqb o.file mirror_file) which) [
+        | inl bits ↦ (let file = eqb-true o.file bitmap_file bits in in_stream o owned.number b (ap (is_touched files) file) (no_table o (ap (λ (i : ℕ). eqb i table_file) file)) owned.lies)
+        | inr mirror ↦ (let file = eqb-true o.file mirror_file mirror in in_stream o owned.number b (ap (is_touched files) file) (no_table o (ap (λ (i : ℕ). eqb i table_file) file)) owned.lies)
       ]
 
-  first_block : (h : NewBody) → IsOwnedIn marks_streams v h.block ⊎ (block_at v.per v.table.runs FileRec dir ≡ Some h.block) → MayDiffer files v w h.block
-  first_block h (inl owned) = owned_v h.block owned
+  first_block : (h : NewBody) → IsOwnedIn marks_streams u h.block ⊎ (block_at u.per u.table.runs FileRec dir ≡ Some h.block) → MayDiffer files v w h.block
+  first_block h (inl owned) = owned_u h.block owned
   first_block h (inr its) = in_record dir h.block dir_touched its
 
   second_block : (h : NewBody) → IsOwnedIn (made_streams dir) x h.block ⊎ IsInRecord (is_edited edits) x (whole_write h) → MayDiffer files v w h.block
   second_block h (inl owned) = owned_x h.block owned
   second_block h (inr its) = elim (or_cases (eqb n its.number) (eqb dir its.number || false) its.chosen) [
-    | inl file ↦ in_record n h.block file_touched (ap (block_at v.per v.table.runs FileRec) (eqb-true n its.number file) ∙ its.lies)
+    | inl file ↦ in_record n h.block file_touched (ap (block_at u.per u.table.runs FileRec) (eqb-true n its.number file) ∙ its.lies)
     | inr rest ↦ elim (or_cases (eqb dir its.number) false rest) [
-      | inl own ↦ in_record dir h.block dir_touched (ap (block_at v.per v.table.runs FileRec) (eqb-true dir its.number own) ∙ its.lies)
+      | inl own ↦ in_record dir h.block dir_touched (ap (block_at u.per u.table.runs FileRec) (eqb-true dir its.number own) ∙ its.lies)
       | inr never ↦ absurd cc
     ]
   ]
+
+  -- a block that may differ where the index has grown may differ behind it
+  dir_first : (o : StreamKey) → touched_streams (dir ∷ []) o ≡ true → touched_streams files o ≡ true
+  dir_first o chosen =
+      let parts = and_parts (is_touched (dir ∷ []) o.file) (not (same_key o table_key)) chosen in
+      and_from (is_touched files o.file) (not (same_key o table_key)) (one_more n dir o.file parts.0) parts.1
+
+  count_w : count_of w ≡ count_of u
+  count_w = length-with_edits x.files edits ∙ length-with_edits u.files (record { number = dir; file = Some q } ∷ [])
+
+  before_differs : (b : Block) → MayDiffer (dir ∷ []) v u b → MayDiffer files v w b
+  before_differs b (inl its) = inl (record {
+    number = its.number;
+    touched = elim its.touched [
+      | inl here ↦ inl (one_more n dir its.number here)
+      | inr behind ↦ inr (behind.0, subst (λ (i : ℕ). its.number < i) (sym count_w) behind.1)
+    ];
+    place = its.place;
+  })
+  before_differs b (inr (inl owned)) = inr (inl (record { stream = owned.stream; chosen = dir_first owned.stream owned.chosen; number = owned.number; lies = owned.lies }))
+  before_differs b (inr (inr owned)) =
+      inr (inr (record { stream = owned.stream; chosen = dir_first owned.stream owned.chosen; number = owned.number; lies = ap (λ (l : List Run). block_at u.per l (stream_kind owned.stream) owned.number) (w_runs owned.stream) ∙ owned.lies }))
 
   body_stays : (b : Block) → ((y : Block) → MayDiffer files v w y → overlap b y ≡ false) → last b ≡ c b
   body_stays b far =
       ap (λ (y : Content). y b) (sym two.edits.content)
       ∙ contents_left.stays middle v w files two.bodies sized_middle two.makes.whole (all_by (λ (h : NewBody). IsOwnedIn (made_streams dir) x h.block ⊎ IsInRecord (is_edited edits) x (whole_write h)) (λ (h : NewBody). MayDiffer files v w h.block) second_block two.bodies two.makes.each) b far
       ∙ ap (λ (y : Content). y b) (sym one.1.0.content)
-      ∙ contents_left.stays first v w files one.0 sized_first one.1.1.put.puts.whole (all_by (λ (h : NewBody). IsOwnedIn marks_streams v h.block ⊎ (block_at v.per v.table.runs FileRec dir ≡ Some h.block)) (λ (h : NewBody). MayDiffer files v w h.block) first_block one.0 one.1.1.put.puts.each) b far
-      ∙ ap (λ (y : Content). y b) (start times_set reads c g clusters v s numbers m a r value used t fresh nodes timed new k)
+      ∙ contents_left.stays first v w files one.0 sized_first one.1.1.put.puts.whole (all_by (λ (h : NewBody). IsOwnedIn marks_streams u h.block ⊎ (block_at u.per u.table.runs FileRec dir ≡ Some h.block)) (λ (h : NewBody). MayDiffer files v w h.block) first_block one.0 one.1.1.put.puts.each) b far
+      ∙ k.before.left.stays b (λ y differs. far y (before_differs y differs))
 
   -- ---- what is left
 
   pub reached : Reaches c g clusters v new w
-  reached = reaches times_set reads c g clusters v s numbers m a r value used t fresh nodes timed new k
+  reached = reaches times_set reads c g clusters v s numbers m a r growths u now grown value used t fresh nodes timed new k
 
   pub left : IsLeft c v clusters files growths last w
   left = record {
-    placed = placed;
-    grown = all_grown growths stay;
-    others = λ u apart. w_runs u;
+    placed = k.before.left.placed;
+    grown = all_grown growths k.before.streams k.before.left.grown;
+    others = λ o apart. w_runs o ∙ k.before.left.others o apart;
     bits = subst (λ (y : Content). FollowsOwners clusters (cluster_bits c v) (cluster_bits y w) v.files w.files) reached.content reached.draft.marks;
-    takes = λ u i more. (let same = ap (λ (l : List Run). uses l i) (w_runs u) in absurd (omega (arith, same, more)));
+    takes = λ o i more. k.before.left.takes o i (subst (λ (l : List Run). uses (runs_in (stream_at v o)) i < uses l i) (w_runs o) more);
     stays = body_stays;
   }
 
-pub file_leaves : TimesAreSet → NewFileReads → MadeFilesAreLeft
-file_leaves times_set reads c g clusters v s numbers m a r value used t fresh nodes timed new growths k placed stay = left times_set reads c g clusters v s numbers m a r value used t fresh nodes timed new growths k placed stay
+pub behind_leaves : TimesAreSet → NewFileReads → MadeBehindAreLeft
+behind_leaves times_set reads c g clusters v s numbers m a r growths u now grown value used t fresh nodes timed new k = left times_set reads c g clusters v s numbers m a r growths u now grown value used t fresh nodes timed new k

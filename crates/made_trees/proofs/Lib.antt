@@ -7,3 +7,4 @@ pub use Rattle.written_values.proofs.plan_model
 pub mod Infos
 pub mod Going
 pub mod Leaving
+pub mod Nothing

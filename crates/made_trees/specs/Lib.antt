@@ -8,3 +8,5 @@ pub use Rattle.written_values.specs.plan_model
 pub use Rattle.written_values.specs.step_model
 pub mod Created
 pub mod Left
+pub mod Grown
+pub mod Behind

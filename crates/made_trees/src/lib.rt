@@ -6,6 +6,9 @@
 
 mod laws;
 
-pub use laws::{made_files_are_left, made_files_are_trees};
+pub use laws::{
+    made_behind_are_left, made_behind_are_trees, made_files_are_left, made_files_are_trees,
+    none_has_grown,
+};
 pub use made_files::{new_file_reads, times_are_set};
 pub use written_values::{found_is_there, makings_are_steps};

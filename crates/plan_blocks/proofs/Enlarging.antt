@@ -103,7 +103,8 @@ use Rattle.plan_edits.proofs.plan_growth.Sizing.{none_from}
 use Rattle.plan_blocks.specs.Blocks.{used_stream, blocks_before, blocks_behind, IsFreshBlock, GrowsIndex, RoomDiffers}
 use Rattle.plan_blocks.proofs.Beside.{IsBeside, same_types, same_directory, same_links, same_names, same_root, same_info, same_stream, same_flags, blocks_uses, blocks_kept}
 use Rattle.plan_blocks.proofs.Behind.{lies_in_more}
-use Rattle.plan_blocks.proofs.Placing.{place_in, extents_fit, fits_now, place_kept, count_before, count_rises, block_kept, block_void, goes_behind, keeps_nodes, links_kept, blocks_are, none_at}
+use Rattle.plan_edits.proofs.plan_growth.Ruled.{sizes_lawful}
+use Rattle.plan_blocks.proofs.Placing.{place_in, extents_fit, fits_now, place_kept, count_before, count_now, count_rises, block_kept, block_void, goes_behind, keeps_nodes, nodes_back, links_kept, blocks_are, none_at}
 use Rattle.file_tree.specs.Trees.{node_at as node_by_number}
 
 -- ---- small ones
@@ -659,6 +660,20 @@ module _ (c : Content) (g : Geometry) (clusters : ℕ) (v : Volume) (n : ℕ) (r
       let rises = count_rises v.per v.clusters e more real initialised per_8 old_fits k.spelled k.taken.spelled k.room k.sizes in
       let kept : KeepsNodes c old_place d new_place count = keeps_nodes c d (index_block v.per e) (index_block v.per f) (block_count v.per e) (block_count v.per f) (8 / v.per) rises same_block_there (λ i low. body_stays i) count in
       subst (λ (x : Place). KeepsNodes c x d (index_place v.per s) count) (sym place_was) (subst (λ (x : Place). KeepsNodes c old_place d x count) (sym place_is) kept)
+
+  pub index_no_more : real ≤ initialised → e.real ≡ 4096 * (e.real / 4096) → ((i : ℕ) → e.initialised ≤ 4096 * i → 4096 * (i + 1) ≤ real → is_index_body (d (index_block v.per f i)) ≡ false) → (count : ℕ → ℕ) → KeepsNodes d (index_place v.per s) c (index_place v.per r) count
+  index_no_more all whole fresh count =
+      let was : block_count v.per e ≡ e.real / 4096 = count_before v.per v.clusters e more real initialised per_8 old_fits k.spelled k.taken.spelled k.room k.sizes in
+      let is : block_count v.per f ≡ real / 4096 = count_now v.per v.clusters e more real initialised per_8 old_fits k.spelled k.taken.spelled k.room k.sizes in
+      let lawful = (sizes_lawful v.per v.clusters e old_fits).0 in
+      let each : (i : ℕ) → i < block_count v.per f → ((i < block_count v.per e) × (index_block v.per f i ≡ index_block v.per e i) × (d (index_block v.per e i) ≡ c (index_block v.per e i))) ⊎ (is_index_body (d (index_block v.per f i)) ≡ false) =
+      (λ i low. elim (cases_lt (4096 * i) e.initialised) [
+        | inl begins ↦ inl (omega (arith, was, whole, lawful, begins), block_kept v.per v.clusters e more real initialised per_8 old_fits k.spelled k.taken.spelled k.room k.sizes i begins, body_stays i)
+        | inr past ↦ inr (fresh i past (omega (arith, is, low)))
+      ])
+      in
+      let back : KeepsNodes d new_place c old_place count = nodes_back c d (index_block v.per e) (index_block v.per f) (block_count v.per e) (block_count v.per f) (8 / v.per) each count in
+      subst (λ (x : Place). KeepsNodes d (index_place v.per s) c x count) (sym place_was) (subst (λ (x : Place). KeepsNodes d x c old_place count) (sym place_is) back)
 
   pub index_behind : e.real ≤ e.initialised → PlaceGoesOn (index_place v.per r) (index_place v.per s)
   index_behind all =

@@ -6,6 +6,7 @@ use Rattle.std.proofs.lemmas.Bool.{cases_lt, or_parts, and_parts, and_from, le-l
 use Rattle.disk_model.specs.declared.block.Block.{Block}
 use Rattle.disk_model.specs.declared.block.BlockKind.TheVariants.{Index}
 use Rattle.disk_model.specs.Sectors.{sectors}
+use Rattle.disk_model.specs.Bodies.{BodyOf}
 use Rattle.disk_model.specs.Content.{Content}
 use Rattle.record_model.specs.declared.entry.Entry.{Entry}
 use Rattle.record_model.specs.declared.runs.Run.{Run}
@@ -204,6 +205,38 @@ module _ (c d : Content) (g f : ℕ → Block) (n m step : ℕ) (less : n ≤ m)
   pub keeps_nodes : (count : ℕ → ℕ) → KeepsNodes c p d q count
   unfolding node_of_block node_block
   keeps_nodes count v entries here is = by_test (ltb 0 step && eqb (v % step) 0) v (cond (eqb step 0) 0 (v / step)) entries is
+
+no_body : (v : ℕ) (b : BodyOf) → is_index_body b ≡ false → (entries : List Entry) → node_of_body v b ≡ Ok entries → ⊥
+unfolding node_of_body
+no_body v b none entries is = (let never = rw none at is in absurd cc)
+
+-- Nodes of two lists of blocks by number, where each block of the second that isn't the one of the first at its number, with the same body, is no
+-- index block.
+module _ (c d : Content) (g f : ℕ → Block) (n m step : ℕ) (each : (i : ℕ) → i < m → ((i < n) × (f i ≡ g i) × (d (g i) ≡ c (g i))) ⊎ (is_index_body (d (f i)) ≡ false)) where
+  abbrev fewer : Place
+  fewer = record { blocks = map g (range_with_len 0 n); step = step }
+
+  abbrev all : Place
+  all = record { blocks = map f (range_with_len 0 m); step = step }
+
+  back_number : (v i : ℕ) (entries : List Entry) → node_of_part d v (slice_get (map f (range_with_len 0 m)) i) ≡ Ok entries → node_of_part c v (slice_get (map g (range_with_len 0 n)) i) ≡ Ok entries
+  back_number v i entries is = elim (cases_lt i m) [
+    | inl low ↦
+        (let now : node_of_body v (d (f i)) ≡ Ok entries = sym (ap (node_of_part d v) (get_here f m i low)) ∙ is in
+        elim (each i low) [
+          | inl stays ↦ ap (node_of_part c v) (get_here g n i stays.0) ∙ ap (node_of_body v) (sym stays.2) ∙ ap (λ (b : Block). node_of_body v (d b)) (sym stays.1) ∙ now
+          | inr none ↦ absurd (no_body v (d (f i)) none entries now)
+        ])
+    | inr past ↦ (let none : node_of_part d v None ≡ Ok entries = sym (ap (node_of_part d v) (get_past f 0 m i past)) ∙ is in absurd cc)
+  ]
+
+  back_test : (t : Bool) (v i : ℕ) (entries : List Entry) → node_of_part d v (cond t (slice_get (map f (range_with_len 0 m)) i) None) ≡ Ok entries → node_of_part c v (cond t (slice_get (map g (range_with_len 0 n)) i) None) ≡ Ok entries
+  back_test true v i entries is = back_number v i entries is
+  back_test false v i entries is = absurd cc
+
+  pub nodes_back : (count : ℕ → ℕ) → KeepsNodes d all c fewer count
+  unfolding node_of_block node_block
+  nodes_back count v entries here is = back_test (ltb 0 step && eqb (v % step) 0) v (cond (eqb step 0) 0 (v / step)) entries is
 
 -- ---- the names
 

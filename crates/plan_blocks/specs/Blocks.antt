@@ -1,5 +1,5 @@
 -- The index of a directory gets more blocks, in which no node stands yet: its allocation takes clusters and has greater sizes.
-use Rattle.std.specs.Prelude.{◌≡◌, ◌⊎◌, ⊤, ◌+◌, ◌*◌, ◌≤◌, ◌<◌, ◌||◌, not, ℕ, Bool, nat_le, true, false, List, [], ◌∷◌, filter, map, Option, Some, None}
+use Rattle.std.specs.Prelude.{◌≡◌, ◌⊎◌, ⊤, ◌+◌, ◌*◌, ◌/◌, ◌≤◌, ◌<◌, ◌||◌, not, ℕ, Bool, nat_le, true, false, List, [], ◌∷◌, filter, map, Option, Some, None}
 use Rattle.std.specs.List.{AllByRecursion}
 use Rattle.disk_model.specs.declared.block.Block.{Block}
 use Rattle.disk_model.specs.declared.block.BlockKind.{BlockKind}
@@ -22,7 +22,7 @@ use Rattle.state_model.specs.declared.stream.Stream.TheVariants.{Held, Placed}
 use Rattle.state_model.specs.Files.{has_type, is_directory_record}
 use Rattle.state_model.specs.Loads.{extents_or, total_clusters}
 use Rattle.state_model.specs.Streams.{is_attribute_of, attributes_of, stream_of, block_at}
-use Rattle.volume_model.specs.Indexes.{void_block, index_stream, index_place, index_links}
+use Rattle.volume_model.specs.Indexes.{void_block, index_block, index_stream, index_place, index_links}
 use Rattle.volume_model.specs.Owners.{uses}
 use Rattle.volume_model.specs.Sizes.{are_joined}
 use Rattle.volume_model.specs.Volumes.{Volume, file_in, cluster_bits, upper_of}
@@ -128,7 +128,8 @@ pub record RoomDiffers (t u : Tree) : Type 0 where
 
 -- Then a state becomes one whose tree differs in the room alone; it is an edit of a plan, which gives the runs the kind of index blocks.
 -- The index lists what it listed, and each node that stood at its place stands there; where all its blocks were initialised, its place
--- goes on behind the old one.
+-- goes on behind the old one. Where all are afterwards, the old size is one of whole blocks, and no fresh block is an index block, no
+-- node stands there that didn't before.
 pub record IndexGrown : Type 0 where
   pub leads : (c : Content) (g : Geometry) (clusters : ℕ) (v : Volume) (n : ℕ) (r : Record) (more : List Run) (real initialised : ℕ) (s : Record) (bodies : List NewBody) → HasSizes c → g.per_cluster ≡ 8 → Stands c g clusters v → GrowsIndex c v n r more real initialised s bodies
       → LeadsTo (is_edited (record { number = n; file = Some s } ∷ [])) c v (content_with c bodies) g clusters (with_record v n s)
@@ -142,3 +143,6 @@ pub record IndexGrown : Type 0 where
       → KeepsNodes c (index_place v.per r) (content_with c bodies) (index_place v.per s) count
   pub place : (c : Content) (g : Geometry) (clusters : ℕ) (v : Volume) (n : ℕ) (r : Record) (more : List Run) (real initialised : ℕ) (s : Record) (bodies : List NewBody) → HasSizes c → g.per_cluster ≡ 8 → Stands c g clusters v → GrowsIndex c v n r more real initialised s bodies
       → (blocks_before r).real ≤ (blocks_before r).initialised → PlaceGoesOn (index_place v.per r) (index_place v.per s)
+  pub none_more : (c : Content) (g : Geometry) (clusters : ℕ) (v : Volume) (n : ℕ) (r : Record) (more : List Run) (real initialised : ℕ) (s : Record) (bodies : List NewBody) (count : ℕ → ℕ) → HasSizes c → g.per_cluster ≡ 8 → Stands c g clusters v → GrowsIndex c v n r more real initialised s bodies
+      → real ≤ initialised → (blocks_before r).real ≡ 4096 * ((blocks_before r).real / 4096) → ((i : ℕ) → (blocks_before r).initialised ≤ 4096 * i → 4096 * (i + 1) ≤ real → is_index_body (content_with c bodies (index_block v.per (blocks_behind v.per r more real initialised) i)) ≡ false)
+      → KeepsNodes (content_with c bodies) (index_place v.per s) c (index_place v.per r) count

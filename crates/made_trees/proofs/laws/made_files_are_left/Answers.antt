@@ -1,4 +1,4 @@
-use Rattle.made_trees.proofs.Leaving.{file_leaves}
+use Rattle.made_trees.proofs.Nothing.{file_leaves}
 use Rattle.made_trees.proofs.laws.made_files_are_left.Goals as goal
 
 pub returns : goal.returns

@@ -1,4 +1,4 @@
-use Rattle.made_trees.proofs.Going.{file_is_there}
+use Rattle.made_trees.proofs.Nothing.{file_is_there}
 use Rattle.made_trees.proofs.laws.made_files_are_trees.Goals as goal
 
 pub returns : goal.returns

@@ -1,4 +1,4 @@
-use Rattle.plan_blocks.proofs.Enlarging.{index_leads, index_goes_on, index_tree, index_listed, index_nodes, index_behind}
+use Rattle.plan_blocks.proofs.Enlarging.{index_leads, index_goes_on, index_tree, index_listed, index_nodes, index_no_more, index_behind}
 use Rattle.plan_blocks.proofs.laws.index_grown.Goals as goal
 
 pub returns : goal.returns
@@ -9,4 +9,5 @@ returns c = record {
   lists = index_listed;
   nodes = λ c g clusters v n r more real initialised s bodies count sized eight state k. index_nodes c g clusters v n r more real initialised s bodies sized eight state k count;
   place = index_behind;
+  none_more = λ c g clusters v n r more real initialised s bodies count sized eight state k all whole fresh. index_no_more c g clusters v n r more real initialised s bodies sized eight state k all whole fresh count;
 }

@@ -1,0 +1,13 @@
+pub mod Rows
+pub mod Directory
+pub mod Names
+pub mod Numbers
+pub mod Vcns
+pub mod Found
+pub mod Timed
+pub mod Makes
+pub mod Steady
+pub mod Rooted
+pub mod Values
+pub mod Times
+pub mod Steps

@@ -1,0 +1,4 @@
+pub mod Counting
+pub mod Widening
+pub mod Fitting
+pub mod Rising
