@@ -253,7 +253,7 @@ module _ (c : Content) (g : Geometry) (clusters : ℕ) (v : Volume) (n : ℕ) (r
       let begins : leb size (4096 * i) ≡ false = lt-leb size (4096 * i) (omega (arith, inside)) in
       ap (λ (t : Bool). is_index_body (last (cond t void_block (or_void (block_at v.per f.runs Index i))))) begins
       ∙ ap (λ (o : Option Block). is_index_body (last (or_void o))) lies
-      ∙ k.empty there.block (record { number = i; lies = lies; past = past })
+      ∙ k.empty there.block (i, (lies, past, omega (arith, inside)))
 
   nodes : (i : ℕ) → nodes_of (node_of_block last (index_place u.per q)) i ≡ nodes_of (node_of_block c (index_place v.per r)) i
   nodes i =

@@ -14,7 +14,8 @@ use Rattle.plan_bodies.specs.Bodies.{NewBody}
 use Rattle.plan_draft.specs.declared.touched.Touched.{Touched}
 use Rattle.plan_draft.specs.Drafts.{drafted}
 use Rattle.plan_blocks.specs.plan_edits.Moves.{EditsDraft}
-use Rattle.plan_blocks.specs.Blocks.{used_stream, HasNoPlace, blocks_before, blocks_behind, IsFreshBlock, GrowsIndex}
+use Rattle.plan_blocks.specs.Blocks.{used_stream, HasNoPlace, blocks_before, blocks_behind, GrowsIndex}
+use Rattle.plan_blocks.specs.Drafted.{IsBegunBlock}
 use Rattle.made_trees.specs.plan_model.Informed.{with_record}
 use Rattle.space_model.specs.Choosing.{chosen}
 use Rattle.stream_runs.specs.Runs.{last_cluster}
@@ -31,7 +32,7 @@ abbrev pub growths_by : ℕ → Record → List Run → List Growth
 growths_by n r runs = blocks_by n r runs ∷ in_record (used_key n) ∷ []
 
 -- A draft that touched nothing before has put the edit by which the index takes these runs, some clusters that are chosen behind its own, and gets
--- this size. The bitmap of the blocks had no clusters, the index had whole blocks, and no fresh block is an index block.
+-- this size. The bitmap of the blocks had no clusters, the index had whole blocks, and no block that comes to be initialised is an index block yet.
 pub record GrowsFirst (c : Content) (v : Volume) (n : ℕ) (r : Record) (runs : List Run) (size : ℕ) (q : Record) (bodies : List NewBody) (new : List Touched) : Type 0 where
   pub kept : IsKept new
   pub edits : EditsDraft c [] new bodies
@@ -40,7 +41,7 @@ pub record GrowsFirst (c : Content) (v : Volume) (n : ℕ) (r : Record) (runs : 
   pub are_chosen : runs ≡ chosen (cluster_bits c v) (last_cluster (blocks_before r).runs) (total_clusters runs)
   pub no_place : HasNoPlace (used_stream r)
   pub whole : (blocks_before r).real ≡ 4096 * ((blocks_before r).real / 4096)
-  pub empty : (b : Block) → IsFreshBlock v r (blocks_behind v.per r runs size size) b → is_index_body (drafted new c b) ≡ false
+  pub empty : (b : Block) → IsBegunBlock v r (blocks_behind v.per r runs size size) b → is_index_body (drafted new c b) ≡ false
 
 -- Then the index has grown as it may before a file is made in the directory.
 abbrev pub IndexGrowsFirst : Type 0

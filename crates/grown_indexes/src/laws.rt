@@ -1,4 +1,5 @@
 //! The laws of these definitions.
+ghost use Rattle.grown_indexes.specs.Counted.{CountsGrowths};
 ghost use Rattle.grown_indexes.specs.First.{IndexGrowsFirst};
 
 /// Law: where a draft that touched nothing before has let the index of a directory take the clusters
@@ -6,4 +7,10 @@ ghost use Rattle.grown_indexes.specs.First.{IndexGrowsFirst};
 /// before a file is made in the directory.
 pub fn index_grows_first()
     ensures { IndexGrowsFirst }
+{}
+
+/// Law: where the bitmap of an index's blocks stands in the record, and as many clusters are clear as
+/// a step wants for the blocks, the clusters that a step counts are those by which they grow.
+pub fn counts_growths()
+    ensures { CountsGrowths }
 {}
