@@ -1,6 +1,7 @@
 //! The laws of these definitions.
 ghost use Rattle.grown_indexes.specs.Counted.{CountsGrowths};
 ghost use Rattle.grown_indexes.specs.First.{IndexGrowsFirst};
+ghost use Rattle.grown_indexes.specs.Put.{PutGrowsFirst};
 
 /// Law: where a draft that touched nothing before has let the index of a directory take the clusters
 /// that are chosen for it, with its bitmap as a value in the record, the index has grown as it may
@@ -13,4 +14,10 @@ pub fn index_grows_first()
 /// a step wants for the blocks, the clusters that a step counts are those by which they grow.
 pub fn counts_growths()
     ensures { CountsGrowths }
+{}
+
+/// Law: so has an index of whole blocks that a draft's call has let grow, in a draft that touched
+/// nothing before and knew the clear clusters.
+pub fn put_grows_first()
+    ensures { PutGrowsFirst }
 {}
