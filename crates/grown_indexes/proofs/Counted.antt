@@ -37,7 +37,7 @@ own_clusters None wanted = omega arith
 own_clusters (Some (Held value)) wanted = omega arith
 own_clusters (Some (Placed e)) wanted = omega arith
 
-abbrev first_by : Growth → List Growth → Growth
+abbrev pub first_by : Growth → List Growth → Growth
 first_by x [] = x
 first_by x (y ∷ l) = y
 

@@ -2,6 +2,7 @@
 ghost use Rattle.grown_indexes.specs.Counted.{CountsGrowths};
 ghost use Rattle.grown_indexes.specs.First.{IndexGrowsFirst};
 ghost use Rattle.grown_indexes.specs.Put.{PutGrowsFirst};
+ghost use Rattle.grown_indexes.specs.Steps.{PutsAsCounted};
 
 /// Law: where a draft that touched nothing before has let the index of a directory take the clusters
 /// that are chosen for it, with its bitmap as a value in the record, the index has grown as it may
@@ -20,4 +21,10 @@ pub fn counts_growths()
 /// nothing before and knew the clear clusters.
 pub fn put_grows_first()
     ensures { PutGrowsFirst }
+{}
+
+/// Law: where some number is spare and the bitmap of the blocks stands in the record, that call takes
+/// the runs that a step counts.
+pub fn puts_as_counted()
+    ensures { PutsAsCounted }
 {}

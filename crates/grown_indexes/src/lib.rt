@@ -6,4 +6,4 @@
 
 mod laws;
 
-pub use laws::{counts_growths, index_grows_first, put_grows_first};
+pub use laws::{counts_growths, index_grows_first, put_grows_first, puts_as_counted};
