@@ -24,10 +24,10 @@ use Rattle.plan_blocks.specs.Blocks.{blocks_before}
 use Rattle.plan_blocks.proofs.Handing.{runs_are}
 use Rattle.index_edits.specs.Grown.{index_runs}
 use Rattle.made_trees.specs.step_model.Placing.{Growth, more_of, taken_runs}
-use Rattle.made_trees.specs.step_model.Streams.{blocks_key, blocks_size, in_clusters, index_comes, no_change, stream_in, used_behind, wanted_blocks, with_own}
+use Rattle.made_trees.specs.step_model.Streams.{Changed, blocks_key, blocks_size, in_clusters, index_comes, no_change, stream_in, used_behind, wanted_blocks, with_own}
 use Rattle.made_trees.specs.step_model.Plans.{bits_left, grows_table, spread_comes, table_change, table_in}
 use Rattle.grown_indexes.specs.First.{growths_by}
-use Rattle.grown_indexes.specs.Steps.{PutsAsCounted}
+use Rattle.grown_indexes.specs.Steps.{CountsAmongAll, PutsAsCounted}
 use Rattle.grown_indexes.proofs.Counted.{first_by, counts_growths}
 
 own_total : (o : Option Stream) → clusters_or o ≡ total_clusters (runs_in o)
@@ -39,6 +39,12 @@ nothing_left : (bits : List Bool) (growths : List Growth) → growths ≡ [] →
 unfolding with_runs
 nothing_left bits [] is = refl
 nothing_left bits (x ∷ growths) is = absurd cc
+
+pub among_all : CountsAmongAll
+among_all c v n r t more spare =
+    let none : (table_change c v).growths ≡ [] = ap (λ (b : Bool). (table_in b (cluster_bits c v) v (file_in v table_file)).growths) spare in
+    let all : bits_left c v ≡ cluster_bits c v = nothing_left (cluster_bits c v) (table_change c v).growths none in
+    ap (λ (l : List Bool). index_comes l n r t more) all
 
 -- the first growth of an index that takes blocks is that of its blocks
 first_is : (bits : List Bool) (n : ℕ) (r : Record) (t : Tree) (more : ℕ) (x y : Growth) → (index_comes bits n r t more).growths ≡ x ∷ y ∷ [] → (in_clusters bits r (wanted_blocks n r more)).growth ≡ x
@@ -94,10 +100,7 @@ module _ (c : Content) (v : Volume) (r : Record) (i : IndexBlocks) (more : ℕ) 
   count = ap total_clusters runs_same ∙ total_chosen bits (last_cluster e.runs) wanted enough ∙ sym wanted_is ∙ ap more_of own_is
 
   pub as_counted : grows_table (tree_of c v) ≡ false → y.stands ≡ true → (spread_comes c v n r t more).growths ≡ growths_by n r (index_runs v.per bits more i)
-  as_counted spare stands =
-      let none : (table_change c v).growths ≡ [] = ap (λ (b : Bool). (table_in b bits v (file_in v table_file)).growths) spare in
-      let all : bits_left c v ≡ bits = nothing_left bits (table_change c v).growths none in
-      ap (λ (l : List Bool). (index_comes l n r t more).growths) all ∙ counts_growths bits n r t more x y growths stands count ∙ ap (growths_by n r) runs_same
+  as_counted spare stands = ap (λ (x : Changed). x.growths) (among_all c v n r t more spare) ∙ counts_growths bits n r t more x y growths stands count ∙ ap (growths_by n r) runs_same
 
 pub puts_as_counted : PutsAsCounted
 puts_as_counted c v r i more t x y eight streams size spare enough growths stands = as_counted c v r i more t x y eight streams.before size enough growths spare stands

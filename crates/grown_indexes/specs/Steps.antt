@@ -20,3 +20,7 @@ abbrev pub PutsAsCounted : Type 0
 PutsAsCounted = (c : Content) (v : Volume) (r : Record) (i : IndexBlocks) (more : ℕ) (t : Tree) (x y : Growth) → v.per ≡ 8 → HasStreams r i → size_or (index_stream r) ≡ i.extents.real → grows_table (tree_of c v) ≡ false
     → wanted_clusters v.per more i.extents ≤ count_by not (cluster_bits c v) → (index_comes (cluster_bits c v) i.number r t more).growths ≡ x ∷ y ∷ [] → y.stands ≡ true
     → (spread_comes c v i.number r t more).growths ≡ growths_by i.number r (index_runs v.per (cluster_bits c v) more i)
+
+-- Where some number is spare, a step counts the index's clusters among all that are clear in the volume.
+abbrev pub CountsAmongAll : Type 0
+CountsAmongAll = (c : Content) (v : Volume) (n : ℕ) (r : Record) (t : Tree) (more : ℕ) → grows_table (tree_of c v) ≡ false → spread_comes c v n r t more ≡ index_comes (cluster_bits c v) n r t more

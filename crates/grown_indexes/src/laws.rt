@@ -2,7 +2,7 @@
 ghost use Rattle.grown_indexes.specs.Counted.{CountsGrowths};
 ghost use Rattle.grown_indexes.specs.First.{IndexGrowsFirst};
 ghost use Rattle.grown_indexes.specs.Put.{PutGrowsFirst};
-ghost use Rattle.grown_indexes.specs.Steps.{PutsAsCounted};
+ghost use Rattle.grown_indexes.specs.Steps.{CountsAmongAll, PutsAsCounted};
 
 /// Law: where a draft that touched nothing before has let the index of a directory take the clusters
 /// that are chosen for it, with its bitmap as a value in the record, the index has grown as it may
@@ -27,4 +27,9 @@ pub fn put_grows_first()
 /// the runs that a step counts.
 pub fn puts_as_counted()
     ensures { PutsAsCounted }
+{}
+
+/// Law: where some number is spare, a step counts the clusters of an index among all that are clear.
+pub fn counts_among_all()
+    ensures { CountsAmongAll }
 {}

@@ -6,4 +6,6 @@
 
 mod laws;
 
-pub use laws::{counts_growths, index_grows_first, put_grows_first, puts_as_counted};
+pub use laws::{
+    counts_among_all, counts_growths, index_grows_first, put_grows_first, puts_as_counted,
+};
