@@ -1,5 +1,6 @@
 pub mod Frames
 pub mod Rows
+pub mod Timing
 pub mod Stepping
 pub mod Refusing
 pub mod Rising

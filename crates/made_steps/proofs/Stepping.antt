@@ -1,37 +1,26 @@
 -- What a draft has put of a new file behind the growth of its directory's index is the step of its content.
-use Rattle.std.proofs.Common.{◌≡◌, ℕ, ◌+◌, ◌-◌, ◌/◌, ◌<◌, ◌≤◌, Bool, true, false, eqb, List, [], ◌∷◌, ◌++◌, length, Option, Some, None, Ok, refl, sym, ap, ap₂, subst, ◌∙◌, arith}
-use mathlib.Core.Path.{fun_ext}
+use Rattle.std.proofs.Common.{◌≡◌, ℕ, ◌+◌, ◌-◌, ◌<◌, ◌≤◌, Bool, true, false, List, [], ◌∷◌, ◌++◌, length, Option, Some, None, Ok, refl, sym, ap, ap₂, subst, ◌∙◌, arith}
 use Rattle.std.specs.List.{AllByRecursion}
 use Rattle.std.proofs.lemmas.Bool.{and_parts, both_ways}
 use Rattle.host_base.specs.declared.file_ref.FileRef.{FileRef}
-use Rattle.disk_model.specs.declared.block.Block.{Block}
-use Rattle.disk_model.specs.declared.block.BlockKind.TheVariants.{Index}
 use Rattle.disk_model.specs.Content.{Content, HasSizes}
-use Rattle.record_model.specs.declared.attribute.Attr.{Attr}
 use Rattle.record_model.specs.declared.entry.Entry.{Entry as Raw}
-use Rattle.record_model.specs.Constants.{data_type, index_allocation, index_root, names_index, standard_information}
-use Rattle.record_model.specs.Records.{Record, used_of, record_spelling}
+use Rattle.record_model.specs.Records.{Record, used_of}
 use Rattle.file_tree.specs.declared.node.Node.{Node}
 use Rattle.file_tree.specs.declared.link.Link.{Link}
 use Rattle.index_model.specs.declared.key.Key.{Key}
 use Rattle.index_model.specs.Trees.{Tree, levels}
-use Rattle.index_model.specs.Indexes.{Place, node_of_block, nodes_of, most_levels, IsIndex}
+use Rattle.index_model.specs.Indexes.{node_of_block, nodes_of, most_levels}
 use Rattle.index_model.specs.Laws.{HoldsIndex}
 use Rattle.index_change.specs.declared.nodes_plan.NodesPlan.{NodesPlan}
 use Rattle.index_change.specs.declared.plan.DirPlan.{DirPlan}
 use Rattle.index_change.specs.Plans.{root_room, seventeen, needs_level}
 use Rattle.state_model.specs.declared.geometry.Geometry.{Geometry}
 use Rattle.state_model.specs.declared.stream.Extents.{Extents}
-use Rattle.state_model.specs.declared.stream.Stream.{Stream}
-use Rattle.state_model.specs.Indexes.{is_names_root}
-use Rattle.state_model.specs.Streams.{is_attribute_of}
-use Rattle.volume_model.specs.Indexes.{index_stream, index_place, stream_blocks, root_value}
-use Rattle.volume_model.specs.Volumes.{Volume, bytes_or, file_in, file_stream, table_file, upcase_file, upper_of, cluster_bits}
+use Rattle.volume_model.specs.Indexes.{index_place, root_value}
+use Rattle.volume_model.specs.Volumes.{Volume, file_in, table_file, upcase_file, upper_of, cluster_bits}
 use Rattle.volume_state.specs.Trees.{tree_of}
-use Rattle.stream_laws.specs.Frames.{SameNodesIn}
-use Rattle.stream_laws.proofs.Framing.{same_node, same_place}
 use Rattle.tree_laws.specs.Contents.{SameUpper}
-use Rattle.tree_laws.proofs.Agreeing.{same_upper}
 use Rattle.tree_model.specs.declared.script.Op.TheVariants.{Create}
 use Rattle.tree_model.specs.declared.reply.Reply.{Reply}
 use Rattle.tree_model.specs.declared.reply.Reply.TheVariants.{Created}
@@ -43,17 +32,10 @@ use Rattle.plan_bodies.proofs.Putting.{sized_with}
 use Rattle.plan_draft.specs.declared.touched.Touched.{Touched}
 use Rattle.plan_draft.specs.Touching.{bodies_of}
 use Rattle.plan_draft.specs.Drafts.{drafted}
-use Rattle.made_trees.specs.plan_model.Attributes.{RewritesValues}
-use Rattle.made_trees.specs.plan_model.Informed.{is_info, with_record}
-use Rattle.made_trees.proofs.plan_model.Drafting.{per_is}
+use Rattle.made_trees.specs.plan_model.Informed.{with_record}
 use Rattle.made_trees.proofs.plan_model.Making.{leads_to_made}
-use Rattle.made_trees.proofs.plan_model.Rewriting.{same_root, same_stream}
-use Rattle.draft_bits.proofs.BitEffects.{drafted_same}
-use Rattle.draft_records.specs.Records.{record_block, is_past, written_record, touch_if, touch_record}
-use Rattle.record_streams.proofs.Streams.{attribute_kind}
 use Rattle.made_trees.specs.record_times.Times.{timed_record}
 use Rattle.made_trees.specs.record_times.Laws.{TimesAreSet}
-use Rattle.made_trees.proofs.plan_values.Valued.{values_written}
 use Rattle.made_trees.specs.step_model.Plans.{Plan, made_plan, made_spread, spread_comes, spread_used, content_rows, full_row, new_file_attrs, grows_table, table_in, table_change, used_in, used_if, no_plan, IsMadePlan, IsPlan}
 use Rattle.made_trees.specs.step_model.Placing.{Growth, AllPlaced, wanted_by}
 use Rattle.made_trees.specs.step_model.Spreads.{blocks_in, IsSpread, IsKeyOf, Outcome, Flat, Raised, MayBecome}
@@ -65,10 +47,7 @@ use Rattle.made_trees.proofs.change_steps.Planning.{without_journal, at_node}
 use Rattle.made_trees.proofs.made_files.Roots.{OneRoot, one_root, rooted_value}
 use Rattle.plan_owners.proofs.Standing.{streams_at}
 use Rattle.volume_model.specs.Sizes.{keeps_streams}
-use Rattle.plan_bodies.specs.Bodies.{body_in}
 use Rattle.tree_model.specs.Walks.{reached_directory}
-use Rattle.upcase_order.specs.Tables.{upcase_of}
-use Rattle.volume_model.specs.Volumes.{table_or_standard}
 use Rattle.made_trees.proofs.step_model.Spreading.{plans_spread}
 use Rattle.made_trees.specs.change_steps.Found.{IsPlaceFound, FoundIsThere}
 use Rattle.made_trees.specs.change_steps.Makings.{IsMade, MakingsAreSteps}
@@ -92,29 +71,9 @@ use Rattle.made_trees.proofs.step_model.Planning.{plans_placed}
 use Rattle.made_steps.specs.Behind.{MayRise, TakesStepBehind, MadeBehindAreSteps}
 use Rattle.node_spreads.proofs.Counting.{blocks_counted}
 use Rattle.node_spreads.proofs.Widening.{spreads_wider}
+use Rattle.made_trees.specs.Grown.{KeepsIndex}
+use Rattle.made_steps.proofs.Timing.{moved, same_read, times_keep, upper_by}
 use Rattle.made_steps.proofs.Rows.{not_full, same_ref, same_path}
-use Rattle.made_steps.proofs.Frames.{no_mirror, index_away, same_in, root_written}
-
-info_spares : (kind : ℕ) (name : List ℕ) → eqb kind standard_information ≡ false → (a : Attr) → is_attribute_of kind name a ≡ true → is_info a ≡ false
-info_spares kind name other a is = ap (λ (x : ℕ). eqb x standard_information) (attribute_kind kind name a is).0 ∙ other
-
-root_spares : (a : Attr) → is_names_root a ≡ true → is_info a ≡ false
-unfolding is_names_root is_attribute_of
-root_spares a is = info_spares index_root names_index refl a is
-
-upper_by : (c d : Content) (v w : Volume) → w.per ≡ v.per → file_in w upcase_file ≡ file_in v upcase_file → SameUpper c d v → upper_of d w ≡ upper_of c v
-unfolding upper_of
-upper_by c d v w per same bytes =
-    ap (λ (o : Option Record). table_or_standard (upcase_of (bytes_or d w.per (file_stream data_type [] o)))) same
-    ∙ ap (λ (e : ℕ). table_or_standard (upcase_of (bytes_or d e (file_stream data_type [] (file_in v upcase_file))))) per
-    ∙ same_upper c d v bytes
-
--- ---- an index that stands elsewhere
-
-moved : (d e : Content) (here there : Place) (low high value : List ℕ) (u : Tree) → low ≡ high → nodes_of (node_of_block d here) ≡ nodes_of (node_of_block e there) → HoldsIndex d here low value u → HoldsIndex e there high value u
-moved d e here there low high value u uppers nodes h =
-    let by_upper : IsIndex (nodes_of (node_of_block d here)) h.entries high u = subst (λ (y : List ℕ). IsIndex (nodes_of (node_of_block d here)) h.entries y u) uppers h.is_index in
-    record { entries = h.entries; root_read = h.root_read; is_index = subst (λ (y : ℕ → Option (List Raw)). IsIndex y h.entries high u) nodes by_upper }
 
 same_node_of : (o : Option Node) (x y : Node) → o ≡ Some x → o ≡ Some y → x ≡ y
 same_node_of o x y one two = cc
@@ -180,28 +139,28 @@ module _ (times_set : TimesAreSet) (reads : NewFileReads) (there_is : FoundIsThe
   abbrev pub tree : Tree
   tree = two.index.tree
 
-  sized_first : HasSizes first
-  sized_first = sized_with c (bodies_of grown) k.by.sized
-
   sized_middle : HasSizes middle
   sized_middle = sized_with c (bodies_of timed) k.by.sized
 
   state_x : Stands middle g clusters x
   state_x = going.stands times_set reads c g clusters v s numbers m a r growths u now grown value used t fresh nodes timed new k.by
 
-  rewritten : RewritesValues is_info now p
-  rewritten = going.anew times_set reads c g clusters v s numbers m a r growths u now grown value used t fresh nodes timed new k.by
+  -- ---- the index before
 
-  state_first : Stands first g clusters u
-  state_first = going.first_stands times_set reads c g clusters v s numbers m a r growths u now grown value used t fresh nodes timed new k.by
-
-  -- ---- the table of upper-case units
+  keeps : KeepsIndex c v r middle x q
+  keeps = times_keep times_set c g clusters v s dir m.stamp r growths u now grown timed (record {
+    sized = k.by.sized;
+    eight = k.by.eight;
+    before = k.by.before;
+    streams = k.by.streams;
+    info = k.by.info;
+    mirrored_none = k.by.made.directory.mirrored_none;
+    kept = k.by.made.kept;
+    times = k.by.times;
+  })
 
   upper_middle : upper_of middle x ≡ upper_of c v
-  upper_middle =
-      let one = going.edit times_set reads c g clusters v s numbers m a r growths u now grown value used t fresh nodes timed new k.by in
-      let bytes : SameUpper first middle u = subst (λ (y : Content). SameUpper first y u) one.1.0.content (values_written.leads first g clusters u dir now p q one.0 sized_first state_first one.1.1).agrees.upper in
-      upper_by first middle u x refl (elsewhere u dir upcase_file q (λ same. k.by.own.apart.upcase (sym same))) bytes ∙ k.by.before.index.upper
+  upper_middle = keeps.upper
 
   upper_last : upper_of last w ≡ upper_of middle x
   upper_last =
@@ -210,37 +169,11 @@ module _ (times_set : TimesAreSet) (reads : NewFileReads) (there_is : FoundIsThe
       let file : file_in w upcase_file ≡ file_in x upcase_file = elsewhere (with_record x n f) dir upcase_file z (λ same. two.makes.apart.upcase (sym same)) ∙ elsewhere x n upcase_file f (λ same. omega (arith, same, user)) in
       upper_by middle last x w refl file bytes
 
-  -- ---- the index before
-
-  place_same : index_place u.per q ≡ index_place u.per now
-  unfolding index_place index_stream
-  place_same =
-      ap (λ (o : Option Stream). record { blocks = stream_blocks u.per o; step = 8 / u.per })
-      ((leaving.stands_as times_set reads c g clusters v s numbers m a r growths u now grown value used t fresh nodes timed new k.by).streams index_allocation names_index ∙ same_stream is_info now p index_allocation names_index rewritten (info_spares index_allocation names_index refl))
-
-  timed_is : timed ≡ touch_if c (record_block u.per u.table dir) (is_past u.table dir) (record_spelling (written_record p)) grown
-  timed_is =
-      k.by.times.put
-      ∙ ap (λ (e : ℕ). touch_record c e s.table s.mirror dir (record_spelling (written_record p)) grown) (sym (per_is first g clusters u k.by.eight state_first))
-      ∙ ap (λ (e : Extents). touch_record c u.per e s.mirror dir (record_spelling (written_record p)) grown) k.by.streams.table
-      ∙ no_mirror c u.per u.table s.mirror dir (record_spelling (written_record p)) grown k.by.made.directory.mirrored_none
-
-  block_same : (b : Block) → b.kind ≡ Index → middle b ≡ first b
-  block_same b kind =
-      drafted_same c grown timed b k.by.sized k.by.before.kept k.by.made.kept (ap (λ (l : List Touched). body_in (bodies_of l) b) timed_is ∙ index_away c u.per u.table dir (is_past u.table dir) (record_spelling (written_record p)) grown b kind)
-
-  same_nodes : SameNodesIn first middle (index_place u.per now)
-  same_nodes = same_place first middle u.per now (same_in first middle u.per (index_stream now) block_same)
-
-  -- what stands there is what stood before
   nodes_same : nodes_of (node_of_block middle (index_place u.per q)) ≡ nodes_of (node_of_block c (index_place v.per r))
-  nodes_same =
-      ap (λ (y : Place). nodes_of (node_of_block middle y)) place_same
-      ∙ ap nodes_of (fun_ext (λ i. same_node first middle (index_place u.per now) i same_nodes))
-      ∙ fun_ext (λ i. k.by.before.index.nodes i)
+  nodes_same = same_read c middle v x r q keeps
 
   value_is : root_value r ≡ Some value
-  value_is = sym (root_written p ∙ same_root is_info now p rewritten root_spares ∙ k.by.before.index.root) ∙ k.by.made.entry.root
+  value_is = sym keeps.root ∙ k.by.made.entry.root
 
   holds_before : HoldsIndex c (index_place v.per r) (upper_of c v) value t
   holds_before = moved middle c (index_place u.per q) (index_place v.per r) (upper_of middle x) (upper_of c v) value t upper_middle nodes_same k.by.made.entry.holds

@@ -2,6 +2,7 @@
 ghost use Rattle.made_steps.specs.Behind.{MadeBehindAreSteps, RisesWhereNeeded};
 ghost use Rattle.made_steps.specs.Refused.{NotMadeIsStep};
 ghost use Rattle.made_steps.specs.Steps.{MadeFilesAreSteps};
+ghost use Rattle.made_steps.specs.Timed.{IndexesMove, TimesKeepIndex};
 
 use made_trees::{found_is_there, makings_are_steps, new_file_reads, times_are_set};
 
@@ -40,4 +41,17 @@ pub fn not_made_is_step()
 /// record has, a step allows one.
 pub fn rises_where_needed()
     ensures { RisesWhereNeeded }
+{}
+
+/// Law: where a draft has put the times of a directory behind the growth of its index, the index
+/// stands as it stood at first.
+pub fn times_keep_index()
+    ensures { TimesKeepIndex }
+{
+    times_are_set();
+}
+
+/// Law: where an index stands as it stood, what was planned over it before is planned over it.
+pub fn indexes_move()
+    ensures { IndexesMove }
 {}

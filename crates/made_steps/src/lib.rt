@@ -5,4 +5,7 @@
 
 mod laws;
 
-pub use laws::{made_behind_are_steps, made_files_are_steps, not_made_is_step, rises_where_needed};
+pub use laws::{
+    indexes_move, made_behind_are_steps, made_files_are_steps, not_made_is_step,
+    rises_where_needed, times_keep_index,
+};

@@ -1,0 +1,4 @@
+pub mod First
+pub mod Counted
+pub mod Put
+pub mod Steps
