@@ -145,6 +145,9 @@ fn ways_lead_up(rt: HostRuntime) -> Result<(), Fail> {
     Ok(())
 }
 
+// The root, a directory of the volume itself, and seven of users, one in the other.
+static SOME: [Chain; 3] = [Chain(5, 5, 5), Chain(11, 11, 5), Chain(24, 30, 5)];
+
 // The names of the files where one more, with this number, stands in this directory: put, and taken
 // of all files anew.
 fn named_both_ways(
@@ -172,9 +175,8 @@ fn named_both_ways(
 #[test]
 fn one_name_more(rt: HostRuntime) -> Result<(), Fail> {
     let alloc = rt.alloc();
-    let chains = [Chain(5, 5, 5), Chain(11, 11, 5), Chain(24, 30, 5)];
     for (number, parent) in [(40, 27), (41, 11), (42, 5), (329, 30)] {
-        let mut records = records_of(alloc, &chains)?;
+        let mut records = records_of(alloc, &SOME)?;
         let (names, anew) = named_both_ways(alloc, &mut records, number, parent)?;
         assert_eq!(rt; names.counts, anew.counts, "file {number}");
         let links = links_of(&names.links, number as u64);
