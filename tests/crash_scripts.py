@@ -159,13 +159,14 @@ def lapping(files, fills=44):
 
 
 def random_script(files, seed, count=50, syncs=0.1, most=60_000):
-    """Commands that a seed chooses."""
+    """Commands that a seed chooses, and a cut behind them."""
     made, chance = Script(files), random.Random(seed)
     while len(made.turns) < count:
         if chance.random() < syncs:
             made.sync()
         else:
             made.any(chance, most)
+    made.truncate(min(files), 7)
     return made
 
 

@@ -16,24 +16,28 @@ REPLIES = {
     "sync": rf"synced {NUMBER}",
 }
 # Each refusal of a check and of a run, with how many values it has.
-VALUES = {1: ("NotNtfs", 1), 2: ("Geometry", 2), 3: ("VolumeLarge", 1), 4: ("Short", 2), 5: ("BadFixup", 1), 6: ("BadRecord", 2), 7: ("MftList", 0), 8: ("MftLarge", 1)}
-VALUES.update({9: ("Version", 2), 10: ("LogVersion", 2), 11: ("NoRestart", 0), 12: ("ForeignLog", 1), 15: ("BadVolume", 2)})
+VALUES = {1: ("NotNtfs", 1), 2: ("Geometry", 2), 3: ("VolumeLarge", 1), 4: ("Short", 2), 5: ("BadFixup", 1), 6: ("BadRecord", 2), 7: ("MftList", 0)}
+VALUES.update({8: ("MftLarge", 1), 9: ("Version", 2), 10: ("LogVersion", 2), 11: ("NoRestart", 0), 12: ("ForeignLog", 1), 15: ("BadVolume", 2)})
 OF_RUNS = {13: ("LogSmall", 2), 17: ("Unbuilt", 1)}
 # What refuses a run where a check says yes.
 BEYOND_CHECKS = {2, 12, 13, 15, 17}
 CHECKED = re.compile(rf"ok nodes {NUMBER} links {NUMBER} room {NUMBER} journal (?:-|{NUMBER} {NUMBER})\n")
 
 
+# What is asked first, and of each file, by its path and a byte behind its front; and behind all files what is refused, and a large file that gets small.
+FIRST = ["list /", "list /q", "stat /", "stat /$MFT", "stat /q/q", "read /$Boot 0 4"]
+OF_FILES = ["stat {0}", "list {0}", "read {0} 0 4096", "write {0} 3 " + "a1" * 40, "read {0} 3 40", "fill {0} {1} 700 5a", "read {0} {1} 700", "stat {0}"]
+OF_FILES += ["truncate {0} 300", "sync", "fill {0} 5000 9000 c3", "read {0} 5000 4096", "truncate {0} 70000", "read {0} 69000 4096", "truncate {0} 4097"]
+LAST = ["write / 0 00", "write /$MFT 0 00", "fill /q 0 1 00", "truncate {0}/q 0", "truncate {0} 0", "truncate {0} 99999999", "fill {0} 0 65536 11", "sync"]
+LAST += ["write {0} 9 -", "truncate {0} 20", "stat {0}"]
+
+
 def commands(folders, paths):
     """A script on these directories and files: the changes of each file stand behind its stat."""
-    made = [f"list {path}" for path in ["/", *folders]] + ["list /q", f"list {paths[0]}", "stat /", "stat /$MFT", "stat /q/q"]
+    made = FIRST + [f"list {path}" for path in folders]
     for place, path in enumerate(paths):
-        made += [f"stat {path}", f"read {path} 0 4096", f"write {path} 3 {'a1' * 40}", f"read {path} 3 40", f"fill {path} {900 + 4000 * place} 700 5a"]
-        made += [f"read {path} {900 + 4000 * place} 700", f"stat {path}", f"truncate {path} {300 * place}", "sync", f"fill {path} 5000 9000 c3", f"read {path} 5000 4096"]
-        made += [f"truncate {path} 70000", f"read {path} 69000 4096", f"truncate {path} 4097"]
-    made += ["write / 0 00", "write /$MFT 0 00", "read /$Boot 0 4", "fill /q 0 1 00", f"truncate {paths[0]}/q 0", f"truncate {paths[0]} 0", f"truncate {paths[0]} 99999999"]
-    made += [f"fill {paths[-1]} 0 65536 11", "sync", f"write {paths[-1]} 9 -", f"truncate {paths[-1]} 20", f"stat {paths[-1]}"]
-    return made
+        made += [command.format(path, 900 + 4000 * place) for command in OF_FILES]
+    return made + [command.format(paths[-1]) for command in LAST]
 
 
 def text_of(made):

@@ -11,7 +11,7 @@ from real_volumes import ASKED
 from recorded import Disk, Laid, cannot_record, recorded
 from volumes import Volume, blank, library, run
 
-# A volume: its image, the directories and the files that the script is about, and whether its log isn't clean.
+# A volume: its image, and the directories and the files that the script is about.
 Hostile = namedtuple("Hostile", "image folders paths")
 EDGES = [b"\0", b"\xff", b"\x80", b"\0\0\0\0", b"\xff\xff\xff\xff", b"\0\x80", b"\xff\x7f", b"\xff\xff\xff\xff\xff\xff\xff\x7f"]
 
@@ -48,7 +48,7 @@ def of_crash(count, folder):
     image, folders, files = crafted(count, folder)
     laid, disk = Laid(image), Disk()
     calls = recorded(count.program, folder, image, growing(files).text()).calls
-    for call in calls[: last_sync_of_pages(calls)]:
+    for call in calls[: before_flush(calls)]:
         disk.take(call)
     laid.follow(calls)
     laid.lay(disk.newest())
@@ -56,10 +56,9 @@ def of_crash(count, folder):
     return Hostile(image, folders[1:], sorted(files))
 
 
-def last_sync_of_pages(calls):
-    """Before how many calls the close begins to write out: behind the sync before the greatest number of writes in a row at the end."""
-    syncs = [place for place, call in enumerate(calls) if call is None]
-    return syncs[-4] + 1
+def before_flush(calls):
+    """How many calls come before the closing flush, whose last three syncs are its own."""
+    return [place for place, call in enumerate(calls) if call is None][-4] + 1
 
 
 VOLUMES = [
