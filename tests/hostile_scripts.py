@@ -25,7 +25,7 @@ CHECKED = re.compile(rf"ok nodes {NUMBER} links {NUMBER} room {NUMBER} journal (
 
 
 # What is asked first, and of each file, by its path and a byte behind its front; and behind all files what is refused, and a large file that gets small.
-FIRST = ["list /", "list /q", "stat /", "stat /$MFT", "stat /q/q", "read /$Boot 0 4"]
+FIRST = ["list /", "list /q", "stat /q", "stat /", "stat /$MFT", "stat /q/q", "read /$Boot 0 4"]
 OF_FILES = ["stat {0}", "list {0}", "read {0} 0 4096", "write {0} 3 " + "a1" * 40, "read {0} 3 40", "fill {0} {1} 700 5a", "read {0} {1} 700", "stat {0}"]
 OF_FILES += ["truncate {0} 300", "sync", "fill {0} 5000 9000 c3", "read {0} 5000 4096", "truncate {0} 70000", "read {0} 69000 4096", "truncate {0} 4097"]
 LAST = ["write / 0 00", "write /$MFT 0 00", "fill /q 0 1 00", "truncate {0}/q 0", "truncate {0} 0", "truncate {0} 99999999", "fill {0} 0 65536 11", "sync"]
