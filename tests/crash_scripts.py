@@ -145,7 +145,7 @@ def cutting(files):
     return made
 
 
-def lapping(files, fills=44):
+def lapping(files, fills=26):
     """Pieces of 64 KiB, each logged with what they replace: the log of 513 pages is filled twice."""
     made, path = Script(files), max(files, key=lambda path: len(files[path]))
     other = min(files, key=lambda path: len(files[path]))
