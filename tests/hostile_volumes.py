@@ -1,9 +1,11 @@
 """Volumes whose bytes are changed before a script runs on them, and where they are changed."""
 import random
+import struct
 from collections import namedtuple
 
 from crash_scripts import growing
 from crash_volumes import crafted, formatted
+from logs import ENTRIES
 from parsed import CLUSTER, Parsed, held
 from real_reads import put_in
 from real_tools import LIBRARY
@@ -11,6 +13,8 @@ from real_volumes import ASKED
 from recorded import Disk, Laid, cannot_record, recorded
 from volumes import Volume, blank, library, run
 
+# The bytes of an entry of the log before what it redoes.
+HEAD = 0x58
 # A volume: its image, and the directories and the files that the script is about.
 Hostile = namedtuple("Hostile", "image folders paths")
 EDGES = [b"\0", b"\xff", b"\x80", b"\0\0\0\0", b"\xff\xff\xff\xff", b"\0\x80", b"\xff\x7f", b"\xff\xff\xff\xff\xff\xff\xff\x7f"]
@@ -78,6 +82,15 @@ def told(parsed, clusters):
     return [place for place in places if len(set(parsed.read(place, 512))) > 1]
 
 
+def entries_of(parsed, cluster):
+    """Where the heads of the entries of a page of the log stand."""
+    page = parsed.read(CLUSTER * cluster, CLUSTER)
+    at, free = ENTRIES, struct.unpack_from("<H", page, 0x18)[0]
+    while page[:4] == b"RCRD" and at + HEAD <= min(free, CLUSTER):
+        yield CLUSTER * cluster + at, HEAD
+        at += 0x30 + struct.unpack_from("<I", page, at + 0x18)[0]
+
+
 def kinds_of(image):
     """{what: the places, as (first byte, bytes)} of an image's records, runs, index blocks, log pages, bits and boot sector."""
     parsed = Parsed(held(image))
@@ -95,6 +108,7 @@ def kinds_of(image):
         "runs": runs,
         "index blocks": [(place, 510) for place in told(parsed, blocks)],
         "log": [(place, 510) for place in told(parsed, parsed.stream(2))] or [(CLUSTER * parsed.stream(2)[page], 510) for page in (0, 1, 2, 4)],
+        "entries of the log": [found for cluster in parsed.stream(2) for found in entries_of(parsed, cluster)],
         "bits": [(place, 512) for clusters in files for place in told(parsed, clusters)],
     }
     return {what: places for what, places in made.items() if places}
