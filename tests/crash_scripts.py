@@ -176,7 +176,7 @@ def following(files, chance):
     for _ in range(2):
         path = chance.choice(sorted(files))
         if chance.randrange(3):
-            made.fill(path, chance.randrange(len(files[path]) + 100), chance.choice([10, 900, 6000]), chance.randrange(256))
+            made.fill(path, chance.randrange(len(made.files[path]) + 100), chance.choice([10, 900, 6000]), chance.randrange(256))
         else:
-            made.truncate(path, chance.randrange(len(files[path]) + 900))
+            made.truncate(path, chance.randrange(len(made.files[path]) + 900))
     return made
