@@ -205,10 +205,17 @@ ONE_LIST = with_records(ASKED, (26, 1, IN_USE, [attribute for attribute in LISTS
 UNMARKED = asked_volume(bits(544, *ASKED_CLUSTERS[1:]))
 IN_FIRST = (25, 1, IN_USE, [information(), named(1, 5, BOTH, "f"), mapped(2, 1, bytes([0x11, 1, 0, 0]), 8)])
 FIRST_GIVEN = with_records(ASKED, IN_FIRST)
-# The same files in 614 clusters, of which 88 are free, with the bits of these in cluster 13, so that scripts may change them.
-WRITABLE_BITS = bits(614, *ASKED_CLUSTERS, 13)
+# The bits of the clusters in cluster 13, so that scripts may change files.
 IN_CLUSTER = (6, 6, IN_USE, [mapped(0, 1, bytes([0x11, 1, 13, 0]), 8)])
-WRITABLE = changed(with_records(asked_volume(WRITABLE_BITS, clusters=614), IN_CLUSTER), (13 * 4096, WRITABLE_BITS))
+
+
+def writable_volume(clusters):
+    """The same files in so many clusters, of which all but 526 are free, and scripts may change them."""
+    held = bits(clusters, *ASKED_CLUSTERS, 13)
+    return changed(with_records(asked_volume(held, clusters=clusters), IN_CLUSTER), (13 * 4096, held))
+
+
+WRITABLE = writable_volume(614)
 # Of another such volume the log's last page isn't whole.
 ODD_BITS = bits(614, *ASKED_CLUSTERS, 529, 13)
 ODD_LOG = changed(with_records(asked_volume(ODD_BITS, 514, clusters=614, log_size=4096 * 513 + 512), IN_CLUSTER), (13 * 4096, ODD_BITS))
