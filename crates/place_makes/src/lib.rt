@@ -1,8 +1,9 @@
 //! A file that is made in the place that was found for it, in a plan while that is made: where the
 //! index of its directory gets no block.
 //!
-//! The contract: what is put is what the step of the operation asks for, for each state in which the
-//! place was found; where that can't be put without growth, nothing comes of it. The layouts are
+//! The contract: what is put are the times of the directory, nodes of its index that were planned
+//! behind these with the name of the file, and the file with them; where the directory's index isn't
+//! quiet, or the plan takes a block, it is refused. The layouts are
 //! those of the Linux-NTFS documentation, "FILE Record", "$INDEX_ROOT", "Index Record" and
 //! "$Bitmap".
 #![tactic(auto)]
