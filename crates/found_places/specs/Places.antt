@@ -107,7 +107,7 @@ pub record LieBehind (per : ℕ) (r : Record) (fresh : List ℕ) : Type 0 where
   pub behind : (w : ℕ) → 0 < times w fresh → node_block (index_place per r) w ≡ None
 
 -- The operation was found to make this file. The draft that touched nothing has put its directory's times, and behind them the file, of which the nodes were
--- planned over the draft between. All blocks of the directory's index are initialised, and the plan takes none.
+-- planned over the draft between, with fresh VCNs behind the blocks of the directory's index, which are all initialised.
 pub record PutsPlace (c : Content) (g : Geometry) (clusters : ℕ) (v : Volume) (s : VolumeStreams) (numbers : Extents) (path : List (List ℕ)) (directory : Node) (m : NewFile) (r : Record) (value : List ℕ) (used : ℕ) (fresh : List ℕ) (nodes : NodesPlan) (timed new : List Touched) : Type 0 where
   pub sized : HasSizes c
   pub found : IsFoundPlace c g clusters v path directory m
