@@ -1,12 +1,14 @@
 -- A directory's index that gets more blocks.
-use Rattle.std.specs.Prelude.{◌≡◌, ℕ, zero, suc, ◌+◌, ◌-◌, ◌*◌, ◌/◌, ◌<◌, ◌≤◌, ◌^◌, ⊤, Bool, true, IfSome, List, [], ◌++◌, length}
+use Rattle.std.specs.Prelude.{◌≡◌, ℕ, zero, suc, ◌+◌, ◌-◌, ◌*◌, ◌/◌, ◌<◌, ◌≤◌, ◌^◌, ◌&&◌, ◌||◌, nat_le, nat_lt, max, if◌then◌else◌, ⊤, Bool, true, IfSome, List, [], length, map}
+use Rattle.std.specs.List.{range_with_len}
 use Rattle.disk_model.specs.declared.block.BlockKind.TheVariants.{Index}
 use Rattle.disk_model.specs.Bytes.{zeros}
 use Rattle.disk_model.specs.Content.{Content}
-use Rattle.record_model.specs.Constants.{bitmap_type, index_allocation, names_index}
+use Rattle.record_model.specs.Constants.{bitmap_type, index_allocation, index_root, names_index}
 use Rattle.record_model.specs.declared.runs.Run.{Run}
 use Rattle.record_model.specs.Pairs.{cluster_limit, HasSpelling}
 use Rattle.record_model.specs.Records.{Record}
+use Rattle.bit_set.specs.Words.{byte_bit}
 use Rattle.state_model.specs.declared.stream.Extents.{Extents}
 use Rattle.state_model.specs.Loads.{total_clusters}
 use Rattle.state_model.specs.Streams.{block_at}
@@ -23,6 +25,21 @@ use Rattle.draft_growth.specs.draft_resized.Resized.{PutsResized}
 use Rattle.draft_growth.specs.declared.fault.GrowthFault.{GrowthFault}
 use Rattle.draft_growth.specs.declared.fault.GrowthFault.TheVariants.{Full, Short, Fault, Memory}
 use Rattle.draft_indexes.specs.declared.blocks.IndexBlocks.{IndexBlocks}
+
+-- ---- the bits of the blocks
+
+-- the block with this number is in use, or it is one of those that come, from first on, below end
+unfoldable pub is_used : ℕ → ℕ → List ℕ → ℕ → Bool
+is_used first end bits i = (nat_le first i && nat_lt i end) || byte_bit bits i
+
+-- the number of which so many low bits are these
+unfoldable pub low_bits : (ℕ → Bool) → ℕ → ℕ
+low_bits f zero = 0
+low_bits f (suc n) = low_bits f n + (if f n then 2 ^ n else 0)
+
+-- so many bytes of these bits, the low bit of each first
+unfoldable pub bytes_of_bits : (ℕ → Bool) → ℕ → List ℕ
+bytes_of_bits f n = map (λ j. low_bits (λ k. f (8 * j + k)) 8) (range_with_len 0 n)
 
 -- ---- the directory's record
 
@@ -46,18 +63,29 @@ blocks_with per taken more e = with_sizes (size_with more e) (size_with more e) 
 abbrev pub bits_size : ℕ → ℕ
 bits_size size = 8 * ((size / 4096 + 63) / 64)
 
--- the bitmap with zeros behind, so that it has so many
+-- the bitmap with at least so many, in which the bits of the blocks that come are set
 abbrev pub bits_with : ℕ → Extents → List ℕ → List ℕ
-bits_with more e bits = bits ++ zeros (bits_size (size_with more e) - length bits)
+bits_with more e bits = bytes_of_bits (is_used (e.real / 4096) (size_with more e / 4096) bits) (max (length bits) (bits_size (size_with more e)))
 
 -- the record with both
 abbrev pub grown_file : ℕ → List Run → ℕ → IndexBlocks → Record
 grown_file per taken more i = valued_record bitmap_type names_index (bits_with more i.extents i.bits) (placed_record per index_allocation names_index (blocks_with per taken more i.extents) i.file)
 
+-- and with this value of the root of its index
+abbrev pub raised_file : ℕ → List Run → ℕ → List ℕ → IndexBlocks → Record
+raised_file per runs more root i = valued_record index_root names_index root (grown_file per runs more i)
+
 -- its blocks take these runs, and none of their clusters is given back
 pub record IsLongerIndex (per : ℕ) (runs : List Run) (more : ℕ) (i : IndexBlocks) (z : Resized) : Type 0 where
   pub extents : z.extents ≡ blocks_with per runs more i.extents
   pub file : z.file ≡ grown_file per runs more i
+  pub taken : z.taken.items ≡ runs
+  pub freed : z.freed.items ≡ []
+
+-- with this root too
+pub record IsRaisedIndex (per : ℕ) (runs : List Run) (more : ℕ) (root : List ℕ) (i : IndexBlocks) (z : Resized) : Type 0 where
+  pub extents : z.extents ≡ blocks_with per runs more i.extents
+  pub file : z.file ≡ raised_file per runs more root i
   pub taken : z.taken.items ≡ runs
   pub freed : z.freed.items ≡ []
 
@@ -97,12 +125,22 @@ with_blocks c per e body first (suc n) touched = with_block c per e body (first 
 abbrev pub PutsIndex : Content → ℕ → Extents → Extents → Extents → ℕ → Resized → ℕ → ℕ → List Touched → List Touched → Type 0
 PutsIndex c per bitmap table mirror n z first count old new = (mid : List Touched) × (PutsResized c per bitmap table mirror n z old mid × (new ≡ with_blocks c per z.extents (zeros 4096) first count mid))
 
+-- the directory is put with the bits of its clusters, then this body into this block, and so many blocks behind it as zeros
+abbrev pub PutsRaised : Content → ℕ → Extents → Extents → Extents → ℕ → Resized → ℕ → ℕ → List ℕ → List Touched → List Touched → Type 0
+PutsRaised c per bitmap table mirror n z first count node old new = (mid : List Touched) × (PutsResized c per bitmap table mirror n z old mid × (new ≡ with_blocks c per z.extents (zeros 4096) (first + 1) count (with_block c per z.extents node first mid)))
+
 -- The index grows: the directory's record has the longer streams, the bits of the clusters that came are set, and each block that comes to
 -- be initialised is zeros, written whole.
 pub record GrowsBlocks (c : Content) (per : ℕ) (bits : List Bool) (bitmap table mirror : Extents) (i : IndexBlocks) (more : ℕ) (old new : List Touched) (z : Resized) : Type 0 where
   pub longer : IsLongerIndex per (taken_for per bits more i.extents) more i z
   pub fits : FitsButRoom z.file
   pub put : PutsIndex c per bitmap table mirror i.number z (blocks_in i.extents.initialised) (blocks_in (size_with more i.extents) - blocks_in i.extents.initialised) old new
+
+-- The index grows with another root: this body goes into the first block that comes to be initialised, and each other one is zeros.
+pub record RaisesBlocks (c : Content) (per : ℕ) (bits : List Bool) (bitmap table mirror : Extents) (i : IndexBlocks) (more : ℕ) (root node : List ℕ) (old new : List Touched) (z : Resized) : Type 0 where
+  pub longer : IsRaisedIndex per (taken_for per bits more i.extents) more root i z
+  pub fits : FitsButRoom z.file
+  pub put : PutsRaised c per bitmap table mirror i.number z (blocks_in i.extents.initialised) (blocks_in (size_with more i.extents) - (blocks_in i.extents.initialised + 1)) node old new
 
 -- where there is no room, in the record or among the clusters, nothing is touched
 abbrev pub StaysWhereRefused : List Touched → List Touched → GrowthFault → Type 0

@@ -22,7 +22,7 @@ fn zero_bytes(alloc: Global, count: usize) -> Result<Vec<u8>, AllocError>
 }
 
 // Puts this body into the index block with this number, if it has one; the block is fresh.
-fn put_block<V: View>(
+pub fn put_block<V: View>(
     draft: &mut Draft<'_, V>,
     alloc: Global,
     per: ClusterSize,

@@ -1,5 +1,5 @@
-//! A directory's index that gets more blocks in a plan while it is made: its clusters, the bytes of
-//! their bitmap, and the blocks as zeros.
+//! A directory's index that gets more blocks in a plan while it is made: its clusters, the bits of
+//! the blocks, and the blocks as zeros; or the first of them with a node, below another root.
 //!
 //! The contract: the record is the one of the definition, the clusters are those that the choice of
 //! clusters gives, and each block that comes to be initialised is put whole. The layouts are those
@@ -10,11 +10,12 @@ mod blocks;
 mod fresh;
 mod growing;
 mod longer;
+mod used;
 
 pub use block_view::View;
 pub use blocks::IndexBlocks;
 pub use draft_growth::{GrowthFault, Resized};
-pub use growing::grow_blocks;
+pub use growing::{grow_blocks, raise_blocks};
 pub use plan_draft::Draft;
 pub use plan_space::FreeBits;
 pub use state_model::{ClusterSize, Extents};

@@ -1,7 +1,6 @@
 //! A file's unnamed data.
-ghost use Rattle.std.specs.Prelude.{◌≡◌, ◌↔◌, ℕ, true, [], IfOk};
+ghost use Rattle.std.specs.Prelude.{◌≡◌, ◌↔◌, ℕ, true, IfOk};
 ghost use Rattle.std.specs.List.{list_all};
-ghost use Rattle.record_model.specs.Constants.{data_type};
 ghost use Rattle.written_made.specs.record_streams.Fitting.{FitsButRoom};
 ghost use Rattle.state_model.specs.Loads.{form_fits, has_fitting_pairs, has_all_pairs};
 ghost use Rattle.state_model.specs.Streams.{attributes_of};
@@ -42,9 +41,10 @@ fn all_fit(alloc: Global, attrs: &[Attr]) -> Result<bool, Memory>
     Ok(true)
 }
 
-// The same of each attribute of a record.
+/// The same of each attribute of a record (Linux-NTFS documentation, "Data runs"). The error is want
+/// of memory. It takes time linear in the record.
 #[tactic(auto, unfolding(state_model::specs::Loads::has_all_pairs))]
-fn has_all_pairs(alloc: Global, file: &FileRec) -> Result<bool, Memory>
+pub fn has_all_pairs(alloc: Global, file: &FileRec) -> Result<bool, Memory>
     ensures { IfOk result (λ fit. fit ≡ has_all_pairs file.now) }
 {
     all_fit(alloc, file.attrs().as_slice())
@@ -60,16 +60,23 @@ fn first_at_zero(attributes: &[&Attr]) -> bool
     first_vcn(first) == 0
 }
 
-// The same of the attributes of the unnamed data.
-fn begins_at_zero(alloc: Global, file: &FileRec) -> Result<bool, Memory>
-    ensures { IfOk result (λ begins. (begins ≡ true) ↔ BeginsAtZero (attributes_of data_type [] file.now.attrs)) }
+/// Whether a record has a stream of this type and name whose first attribute is from VCN 0 on
+/// (Linux-NTFS documentation, "Attribute Header"). The error is want of memory. It takes time and
+/// memory linear in the record's attributes.
+pub fn begins_at_zero(
+    alloc: Global,
+    kind: u32,
+    name: &[u16],
+    file: &FileRec,
+) -> Result<bool, Memory>
+    ensures { IfOk result (λ begins. (begins ≡ true) ↔ BeginsAtZero (attributes_of kind name.now file.now.attrs)) }
 {
-    let attributes = attributes_of(alloc, DATA, &[], file.attrs().as_slice())?;
+    let attributes = attributes_of(alloc, kind, name, file.attrs().as_slice())?;
     Ok(first_at_zero(&attributes))
 }
 
-// Whether data in clusters lies below so many.
-fn stands_below(clusters: u64, stream: &Option<Stream>) -> bool
+/// Whether a stream in clusters lies below so many, as [`lies_below`](crate::lies_below) says.
+pub fn stands_below(clusters: u64, stream: &Option<Stream>) -> bool
     ensures { (result ≡ true) ↔ StandsBelow clusters stream.now }
 {
     match stream {
@@ -107,7 +114,7 @@ pub fn has_shown_data(
     requires fits { FitsButRoom file.now }
     ensures { IfOk result (λ has. (has ≡ true) ↔ (HasData clusters file.now × ShowsData node.now file.now)) }
 {
-    if !has_all_pairs(alloc, file)? || !begins_at_zero(alloc, file)? {
+    if !has_all_pairs(alloc, file)? || !begins_at_zero(alloc, DATA, &[], file)? {
         return Ok(false);
     }
     let stream = stream_of(alloc, DATA, &[], file.attrs().as_slice())?;

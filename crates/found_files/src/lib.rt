@@ -10,8 +10,10 @@ mod numbers;
 mod placed;
 mod writing;
 
+pub use data::{begins_at_zero, has_all_pairs, stands_below};
 pub use file_tree::Node;
 pub use laws::found_may_write;
+pub use placed::{lies_below, total_clusters};
 pub use tree_model::Op;
 pub use volume_map::VolumeMap;
 pub use writing::may_write;

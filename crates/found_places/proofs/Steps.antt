@@ -1,5 +1,5 @@
 -- A file that is put in its place without a level or a block more is the step of the operation.
-use Rattle.std.proofs.Common.{◌≡◌, ◌⊎◌, ℕ, ◌*◌, ◌≤◌, Bool, true, false, leb, List, [], ◌∷◌, Some, Ok, refl, sym, ap, subst, ◌∙◌, inl, inr, arith}
+use Rattle.std.proofs.Common.{◌≡◌, ◌⊎◌, ℕ, ◌*◌, ◌≤◌, Bool, true, false, leb, List, [], ◌∷◌, ◌++◌, Some, Ok, refl, sym, ap, subst, ◌∙◌, inl, inr, arith}
 use Rattle.std.specs.List.{list_all, AllByRecursion}
 use Rattle.std.proofs.lemmas.Bool.{and_parts, leb-true}
 use Rattle.host_base.specs.Answers.{needs}
@@ -21,6 +21,7 @@ use Rattle.state_model.specs.Loads.{total_clusters}
 use Rattle.state_model.specs.Streams.{stream_of}
 use Rattle.volume_model.specs.Sizes.{keeps_stream, keeps_streams}
 use Rattle.volume_model.specs.Volumes.{Volume, cluster_bits, file_in, file_stream, upper_of}
+use Rattle.volume_state.specs.Trees.{tree_of}
 use Rattle.stream_laws.specs.Sharing.{StreamKey, stream_at, runs_in}
 use Rattle.tree_model.specs.Needs.{clusters_for}
 use Rattle.plan_owners.proofs.Standing.{streams_at}
@@ -28,7 +29,7 @@ use Rattle.plan_draft.specs.declared.touched.Touched.{Touched}
 use Rattle.plan_draft.specs.Drafts.{drafted}
 use Rattle.draft_records.specs.Records.{written_bytes, fits_room, ReadsTheTable}
 use Rattle.step_model.specs.Placing.{Growth}
-use Rattle.step_model.specs.Plans.{bits_left, spread_comes}
+use Rattle.step_model.specs.Plans.{bits_left, grows_table, table_change, spread_comes}
 use Rattle.step_model.specs.Streams.{stream_in, root_comes, blocks_key, used_key}
 use Rattle.step_model.specs.Used.{most_used, used_after, is_in_record}
 use Rattle.state_streams.specs.Streams.{StreamsOfStates, IsPlacedIn}
@@ -47,7 +48,8 @@ use Rattle.made_trees.specs.Created.{timed_directory, timed_volume, MakesFileBy}
 use Rattle.made_trees.specs.Left.{StaysGrown}
 use Rattle.made_steps.specs.Steps.{HasRootOf}
 use Rattle.made_steps.specs.Behind.{MayRise, RisesWhereNeeded, TakesStepBehind, MadeBehindAreSteps}
-use Rattle.made_trees.proofs.Nothing.{behind_nothing}
+use Rattle.made_trees.proofs.Nothing.{behind_nothing, index_stays}
+use Rattle.made_steps.proofs.Stepping.{none_grows, no_table, none_used}
 use Rattle.found_places.proofs.Times.{timed_bytes, written_again}
 use Rattle.found_places.specs.Places.{PutsFlat, HasPlace, HasTimes}
 use Rattle.found_places.specs.Laws.{PlacesTakeSteps}
@@ -172,8 +174,13 @@ module _ (reads : ReadsTheTable) (streams : StreamsOfStates) (there_is : FoundIs
   stays : AllByRecursion (Stays r a.number) growths
   stays = (kept after.0 after_root).stays
 
-  comes : (u : Tree) → HasRootOf value nodes u → (spread_comes c v a.number r u 0).growths ≡ growths
-  comes u is = same_growths (bits_left c v) a.number r u after.0 (same_root r (clusters_of value) u after.0 (is ∙ sym after_root))
+  grows_not : grows_table (tree_of c v) ≡ false
+  grows_not = none_grows times_set new_reads c g clusters v s numbers m a r value (used_of r.attrs) t fresh nodes timed new by
+
+  comes : (u : Tree) → HasRootOf value nodes u → (table_change c v).growths ++ (spread_comes c v a.number r u 0).growths ≡ growths
+  comes u is =
+      ap (λ (l : List Growth). l ++ (spread_comes c v a.number r u 0).growths) (no_table c v grows_not)
+      ∙ same_growths (bits_left c v) a.number r u after.0 (same_root r (clusters_of value) u after.0 (is ∙ sym after_root))
 
   -- ---- the step
 
@@ -193,11 +200,13 @@ module _ (reads : ReadsTheTable) (streams : StreamsOfStates) (there_is : FoundIs
     finds = k.puts.found.finds;
     node = place.node;
     by = behind_nothing c g clusters v s numbers m a r value (used_of r.attrs) t fresh nodes timed new growths by (all_placed r a.number (cluster_bits c v) growths stays) (all_grown growths stays);
+    index = index_stays c v r by.sized;
     short = k.puts.is_name.within;
     least = omega arith;
     taken = omega arith;
     comes = comes;
     little = (let none = none_wanted r a.number growths stays in omega (arith, none));
+    table = none_used c v grows_not;
     room = λ u is. (let used = (kept u is).used in let low = counted u is in omega (arith, used, low));
     level = level;
   }

@@ -1,3 +1,6 @@
+pub mod Behind
+pub mod Next
+pub mod Raised
 pub mod First
 pub mod Counted
 pub mod Put

@@ -1,5 +1,6 @@
 -- What a draft's call has put of an index that grows is what a file may be made behind.
-use Rattle.std.proofs.Common.{◌≡◌, ◌⊎◌, inl, inr, ℕ, zero, suc, ◌+◌, ◌-◌, ◌*◌, ◌/◌, ◌<◌, ◌≤◌, Bool, true, false, not, ◌&&◌, cond, eqb, List, [], length, Option, Some, None, refl, sym, ap, subst, ◌∙◌, arith}
+use Rattle.std.proofs.Common.{◌≡◌, ◌⊎◌, inl, inr, ℕ, zero, suc, ◌+◌, ◌-◌, ◌*◌, ◌/◌, ◌<◌, ◌≤◌, Bool, true, false, not, ◌&&◌, cond, eqb, List, [], ◌++◌, length, Option, Some, None, refl, sym, ap, subst, ◌∙◌, arith}
+use Rattle.std.specs.List.{AllByRecursion}
 use Rattle.std.proofs.lemmas.Bool.{cases_eq, and_right}
 use Rattle.disk_model.specs.declared.block.Block.{Block}
 use Rattle.disk_model.specs.declared.block.BlockKind.TheVariants.{Index}
@@ -22,7 +23,7 @@ use Rattle.plan_draft.specs.Touching.{bodies_of}
 use Rattle.plan_draft.specs.Drafts.{drafted}
 use Rattle.draft_bits.specs.Effects.{IsKept}
 use Rattle.draft_bits.proofs.BitEffects.{drafted_body}
-use Rattle.space_model.specs.Choosing.{chosen}
+use Rattle.space_model.specs.Choosing.{chosen, with_runs}
 use Rattle.stream_runs.specs.Runs.{last_cluster}
 use Rattle.draft_records.specs.Records.{touch_if, written_record}
 use Rattle.resized_streams.specs.declared.resized.Resized.{Resized}
@@ -35,12 +36,15 @@ use Rattle.plan_blocks.specs.Drafted.{IsBegunBlock}
 use Rattle.index_edits.specs.Grown.{GrowsOfVolume, index_runs}
 use Rattle.index_edits.proofs.Grown.{grown_is}
 use Rattle.made_trees.proofs.made_files.Nodes.{after_touch}
-use Rattle.made_trees.proofs.written_values.Joining.{nothing_put}
-use Rattle.made_trees.specs.Grown.{HasGrownBefore}
+use Rattle.made_trees.proofs.Nothing.{none_grown, index_stays}
+use Rattle.made_trees.specs.step_model.Placing.{Growth, taken_runs}
+use Rattle.made_trees.specs.Grown.{IsOfTable, KeepsIndex, HasGrownBefore}
 use Rattle.made_trees.specs.plan_model.Informed.{with_record}
-use Rattle.grown_indexes.specs.First.{growths_by, GrowsFirst}
-use Rattle.grown_indexes.specs.Put.{PutGrowsFirst}
-use Rattle.grown_indexes.proofs.First.{grows_first}
+use Rattle.grown_indexes.specs.First.{growths_by}
+use Rattle.grown_indexes.specs.Next.{GrowsNext}
+use Rattle.grown_indexes.specs.Put.{PutGrowsFirst, PutGrowsNext}
+use Rattle.grown_indexes.proofs.First.{no_runs}
+use Rattle.grown_indexes.proofs.Next.{grows_next}
 
 -- ---- blocks that are put as zeros
 
@@ -72,19 +76,20 @@ unsigned = refl
 no_index : (bytes : List ℕ) (torn : Bool) → bytes ≡ zeros 4096 → (eqb (length bytes) 4096 && not torn && is_signed Index bytes) ≡ false
 no_index bytes torn is = and_right (eqb (length bytes) 4096 && not torn) (is_signed Index bytes) (ap (is_signed Index) is ∙ unsigned)
 
-module _ (c : Content) (g : Geometry) (clusters : ℕ) (v : Volume) (bitmap mirror : Extents) (r : Record) (i : IndexBlocks) (more : ℕ) (new : List Touched) (z : Resized) (eight : g.per_cluster ≡ 8) (state : Stands c g clusters v)
-    (k : GrowsOfVolume c v (cluster_bits c v) bitmap mirror r i more [] new z) (some : 0 < wanted_clusters v.per more i.extents) (whole : i.extents.real ≡ 4096 * (i.extents.real / 4096)) where
+module _ (c : Content) (g : Geometry) (clusters : ℕ) (v : Volume) (growths : List Growth) (u : Volume) (grown : List Touched) (bitmap mirror : Extents) (r : Record) (i : IndexBlocks) (more : ℕ) (new : List Touched) (z : Resized) (eight : g.per_cluster ≡ 8) (state : Stands c g clusters v)
+    (b : HasGrownBefore c g clusters v i.number r growths u r grown) (stays : KeepsIndex c v r (drafted grown c) u r) (table : AllByRecursion IsOfTable growths)
+    (k : GrowsOfVolume c u (with_runs (taken_runs growths) (cluster_bits c v)) bitmap mirror r i more grown new z) (some : 0 < wanted_clusters u.per more i.extents) (whole : i.extents.real ≡ 4096 * (i.extents.real / 4096)) where
   abbrev bits : List Bool
-  bits = cluster_bits c v
+  bits = with_runs (taken_runs growths) (cluster_bits c v)
 
   abbrev e : Extents
   e = i.extents
 
   abbrev wanted : ℕ
-  wanted = wanted_clusters v.per more i.extents
+  wanted = wanted_clusters u.per more i.extents
 
   abbrev runs : List Run
-  runs = index_runs v.per (cluster_bits c v) more i
+  runs = index_runs u.per (with_runs (taken_runs growths) (cluster_bits c v)) more i
 
   abbrev size : ℕ
   size = size_with more i.extents
@@ -98,29 +103,32 @@ module _ (c : Content) (g : Geometry) (clusters : ℕ) (v : Volume) (bitmap mirr
   count : total_clusters runs ≡ wanted
   count = total_chosen bits (last_cluster e.runs) wanted k.space
 
-  extents_are : z.extents ≡ blocks_behind v.per r runs size size
-  extents_are = k.grows.longer.extents ∙ ap (λ (x : Extents). with_sizes size size (lengthened v.per runs x)) (sym before)
+  extents_are : z.extents ≡ blocks_behind u.per r runs size size
+  extents_are = k.grows.longer.extents ∙ ap (λ (x : Extents). with_sizes size size (lengthened u.per runs x)) (sym before)
 
-  state_first : Stands (drafted [] c) g clusters v
-  state_first = subst (λ (y : Content). Stands y g clusters v) (sym (nothing_put c k.sized)) state
+  state_grown : Stands (drafted grown c) g clusters u
+  state_grown = subst (λ (y : Content). Stands y g clusters u) b.content b.draft.stands
 
   kept : IsKept new
-  kept = (grown_is c g clusters v (cluster_bits c v) bitmap mirror r i more [] new z eight state_first k).0
+  kept = (grown_is c g clusters u bits bitmap mirror r i more grown new z eight state_grown k).0
 
-  empty : (b : Block) → IsBegunBlock v r (blocks_behind v.per r runs size size) b → is_index_body (drafted new c b) ≡ false
-  empty b is =
+  empty : (y : Block) → IsBegunBlock u r (blocks_behind u.per r runs size size) y → is_index_body (drafted new c y) ≡ false
+  empty y is =
       let past : e.initialised ≤ 4096 * is.0 = subst (λ (x : Extents). x.initialised ≤ 4096 * is.0) before is.1.1 in
       let low : 4096 * is.0 < size = is.1.2 in
-      let lies : block_at v.per z.extents.runs Index is.0 ≡ Some b = ap (λ (x : Extents). block_at v.per x.runs Index is.0) extents_are ∙ is.1.0 in
+      let lies : block_at u.per z.extents.runs Index is.0 ≡ Some y = ap (λ (x : Extents). block_at u.per x.runs Index is.0) extents_are ∙ is.1.0 in
       let first : ℕ = blocks_in e.initialised in
-      let put : body_in (bodies_of (with_blocks c v.per z.extents (zeros 4096) first (blocks_in size - first) k.grows.put.0)) b ≡ Some (zeros 4096) = all_put c v.per z.extents (zeros 4096) first (blocks_in size - first) k.grows.put.0 is.0 b lies (omega (arith, past)) (omega (arith, past, low)) in
-      let there : body_in (bodies_of new) b ≡ Some (zeros 4096) = ap (λ (l : List Touched). body_in (bodies_of l) b) k.grows.put.1.1 ∙ put in
-      no_index (drafted new c b).bytes (drafted new c b).torn (drafted_body c new b (zeros 4096) k.sized kept there)
+      let put : body_in (bodies_of (with_blocks c u.per z.extents (zeros 4096) first (blocks_in size - first) k.grows.put.0)) y ≡ Some (zeros 4096) = all_put c u.per z.extents (zeros 4096) first (blocks_in size - first) k.grows.put.0 is.0 y lies (omega (arith, past)) (omega (arith, past, low)) in
+      let there : body_in (bodies_of new) y ≡ Some (zeros 4096) = ap (λ (l : List Touched). body_in (bodies_of l) y) k.grows.put.1.1 ∙ put in
+      no_index (drafted new c y).bytes (drafted new c y).torn (drafted_body c new y (zeros 4096) k.sized kept there)
 
-  pub put_first : HasGrownBefore c g clusters v i.number r (growths_by i.number r runs) (with_record v i.number q) q new
-  put_first =
-      let is = grown_is c g clusters v (cluster_bits c v) bitmap mirror r i more [] new z eight state_first k in
-      let first : GrowsFirst c v i.number r runs size q is.1.0 new = record {
+  pub put_next : HasGrownBefore c g clusters v i.number r (growths ++ growths_by i.number r runs) (with_record u i.number q) q new × KeepsIndex c v r (drafted new c) (with_record u i.number q) q
+  put_next =
+      let is = grown_is c g clusters u bits bitmap mirror r i more grown new z eight state_grown k in
+      let next : GrowsNext c g clusters v i.number r growths u grown runs size q is.1.0 new = record {
+        before = b;
+        index = stays;
+        table = table;
         kept = is.0;
         edits = is.1.1.0;
         grows = is.1.1.1;
@@ -131,7 +139,15 @@ module _ (c : Content) (g : Geometry) (clusters : ℕ) (v : Volume) (bitmap mirr
         empty = empty;
       }
       in
-      grows_first c g clusters v i.number r runs size q is.1.0 new k.sized eight (let same = k.count in let few = k.stands.clusters_few in omega (arith, same, few)) state first
+      grows_next c g clusters v i.number r growths u grown runs size q is.1.0 new k.sized eight (let same = k.count in let few = k.stands.clusters_few in omega (arith, same, few)) state next
+
+pub put_grows_next : PutGrowsNext
+put_grows_next c g clusters v growths u grown bitmap mirror r i more new z eight state b stays table k some whole = put_next c g clusters v growths u grown bitmap mirror r i more new z eight state b stays table k some whole
 
 pub put_grows_first : PutGrowsFirst
-put_grows_first c g clusters v bitmap mirror r i more new z eight state k some whole = put_first c g clusters v bitmap mirror r i more new z eight state k some whole
+put_grows_first c g clusters v bitmap mirror r i more new z eight state k some whole =
+    let none : HasGrownBefore c g clusters v i.number r [] v r [] = none_grown c g clusters v i.number r [] k.sized state (record { file = k.file; apart = k.apart; no_list = k.no_list }) tt tt in
+    subst
+    (λ (l : List Bool). GrowsOfVolume c v l bitmap mirror r i more [] new z
+    → HasGrownBefore c g clusters v i.number r (growths_by i.number r (index_runs v.per l more i)) (with_record v i.number (written_record z.file)) (written_record z.file) new × KeepsIndex c v r (drafted new c) (with_record v i.number (written_record z.file)) (written_record z.file))
+    (no_runs (cluster_bits c v)) (λ grows. put_next c g clusters v [] v [] bitmap mirror r i more new z eight state none (index_stays c v r k.sized) tt grows some whole) k

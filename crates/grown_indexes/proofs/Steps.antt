@@ -1,7 +1,6 @@
 -- The runs of a draft's call are those of a step.
 use Rattle.std.proofs.Common.{◌≡◌, ℕ, ◌+◌, ◌-◌, ◌*◌, ◌/◌, ◌≤◌, Bool, true, false, cond, List, [], ◌∷◌, Option, Some, None, refl, sym, ap, ap₂, ◌∙◌, arith}
 use Rattle.std.specs.Prelude.{◌==◌, not, count_by}
-use Rattle.disk_model.specs.Content.{Content}
 use Rattle.record_model.specs.declared.runs.Run.{Run}
 use Rattle.record_model.specs.Records.{Record}
 use Rattle.index_model.specs.Trees.{Tree}
@@ -14,8 +13,7 @@ use Rattle.stream_laws.specs.Sharing.{runs_in}
 use Rattle.stream_runs.specs.Runs.{last_cluster}
 use Rattle.volume_model.specs.Indexes.{index_stream}
 use Rattle.volume_model.specs.Nodes.{clusters_or}
-use Rattle.volume_model.specs.Volumes.{Volume, cluster_bits, file_in, size_or, table_file}
-use Rattle.volume_state.specs.Trees.{tree_of}
+use Rattle.volume_model.specs.Volumes.{cluster_bits, file_in, size_or, table_file}
 use Rattle.resized_streams.specs.Resizing.{clusters_for}
 use Rattle.resized_streams.proofs.Chosen.{total_chosen}
 use Rattle.draft_indexes.specs.declared.blocks.IndexBlocks.{IndexBlocks}
@@ -25,9 +23,9 @@ use Rattle.plan_blocks.proofs.Handing.{runs_are}
 use Rattle.index_edits.specs.Grown.{index_runs}
 use Rattle.made_trees.specs.step_model.Placing.{Growth, more_of, taken_runs}
 use Rattle.made_trees.specs.step_model.Streams.{Changed, blocks_key, blocks_size, in_clusters, index_comes, no_change, stream_in, used_behind, wanted_blocks, with_own}
-use Rattle.made_trees.specs.step_model.Plans.{bits_left, grows_table, spread_comes, table_change, table_in}
+use Rattle.made_trees.specs.step_model.Plans.{bits_left, table_change, table_in}
 use Rattle.grown_indexes.specs.First.{growths_by}
-use Rattle.grown_indexes.specs.Steps.{CountsAmongAll, PutsAsCounted}
+use Rattle.grown_indexes.specs.Steps.{CountsAmongAll, PutsAmong, PutsAsCounted}
 use Rattle.grown_indexes.proofs.Counted.{first_by, counts_growths}
 
 own_total : (o : Option Stream) → clusters_or o ≡ total_clusters (runs_in o)
@@ -55,11 +53,8 @@ first_is bits n r t more x y is = by (blocks_size n r more == 0) is
     by true same = absurd cc
     by false same = ap (first_by x) same
 
-module _ (c : Content) (v : Volume) (r : Record) (i : IndexBlocks) (more : ℕ) (t : Tree) (x y : Growth) (eight : v.per ≡ 8) (before : blocks_before r ≡ i.extents) (size : size_or (index_stream r) ≡ i.extents.real)
-    (enough : wanted_clusters v.per more i.extents ≤ count_by not (cluster_bits c v)) (growths : (index_comes (cluster_bits c v) i.number r t more).growths ≡ x ∷ y ∷ []) where
-  abbrev bits : List Bool
-  bits = cluster_bits c v
-
+module _ (bits : List Bool) (per : ℕ) (r : Record) (i : IndexBlocks) (more : ℕ) (t : Tree) (x y : Growth) (eight : per ≡ 8) (before : blocks_before r ≡ i.extents) (size : size_or (index_stream r) ≡ i.extents.real) (enough : wanted_clusters per more i.extents ≤ count_by not bits)
+    (growths : (index_comes bits i.number r t more).growths ≡ x ∷ y ∷ []) where
   abbrev n : ℕ
   n = i.number
 
@@ -67,7 +62,7 @@ module _ (c : Content) (v : Volume) (r : Record) (i : IndexBlocks) (more : ℕ) 
   e = i.extents
 
   abbrev wanted : ℕ
-  wanted = wanted_clusters v.per more i.extents
+  wanted = wanted_clusters per more i.extents
 
   abbrev own : Growth
   own = (in_clusters bits r (wanted_blocks n r more)).growth
@@ -92,15 +87,19 @@ module _ (c : Content) (v : Volume) (r : Record) (i : IndexBlocks) (more : ℕ) 
       let lacks : wanted ≡ (size_with more e + 4095) / 4096 - total_clusters e.runs = ap (λ (p : ℕ). clusters_for p (size_with more e) - total_clusters e.runs) eight in
       omega (arith, total, same, sized, lacks)
 
-  runs_same : x.runs ≡ index_runs v.per bits more i
+  runs_same : x.runs ≡ index_runs per bits more i
   unfolding in_clusters
   runs_same = ap (λ (g : Growth). g.runs) (sym own_is) ∙ ap₂ (λ (l : List Run) (k : ℕ). chosen bits (last_cluster l) k) old_is wanted_is
 
   count : total_clusters x.runs ≡ more_of x
   count = ap total_clusters runs_same ∙ total_chosen bits (last_cluster e.runs) wanted enough ∙ sym wanted_is ∙ ap more_of own_is
 
-  pub as_counted : grows_table (tree_of c v) ≡ false → y.stands ≡ true → (spread_comes c v n r t more).growths ≡ growths_by n r (index_runs v.per bits more i)
-  as_counted spare stands = ap (λ (x : Changed). x.growths) (among_all c v n r t more spare) ∙ counts_growths bits n r t more x y growths stands count ∙ ap (growths_by n r) runs_same
+  pub among_bits : y.stands ≡ true → (index_comes bits n r t more).growths ≡ growths_by n r (index_runs per bits more i)
+  among_bits stands = counts_growths bits n r t more x y growths stands count ∙ ap (growths_by n r) runs_same
+
+pub puts_among : PutsAmong
+puts_among bits per r i more t x y eight streams size enough growths stands = among_bits bits per r i more t x y eight streams.before size enough growths stands
 
 pub puts_as_counted : PutsAsCounted
-puts_as_counted c v r i more t x y eight streams size spare enough growths stands = as_counted c v r i more t x y eight streams.before size enough growths spare stands
+puts_as_counted c v r i more t x y eight streams size spare enough growths stands =
+    ap (λ (x : Changed). x.growths) (among_all c v i.number r t more spare) ∙ among_bits (cluster_bits c v) v.per r i more t x y eight streams.before size enough growths stands

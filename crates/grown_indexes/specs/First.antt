@@ -22,7 +22,7 @@ use Rattle.stream_runs.specs.Runs.{last_cluster}
 use Rattle.draft_bits.specs.Effects.{IsKept}
 use Rattle.made_trees.specs.step_model.Placing.{Growth}
 use Rattle.made_trees.specs.step_model.Streams.{blocks_key, used_key, in_record}
-use Rattle.made_trees.specs.Grown.{HasGrownBefore}
+use Rattle.made_trees.specs.Grown.{KeepsIndex, HasGrownBefore}
 
 -- the blocks take these runs behind their own, and their bitmap stands in the record
 abbrev pub blocks_by : ℕ → Record → List Run → Growth
@@ -43,7 +43,7 @@ pub record GrowsFirst (c : Content) (v : Volume) (n : ℕ) (r : Record) (runs : 
   pub whole : (blocks_before r).real ≡ 4096 * ((blocks_before r).real / 4096)
   pub empty : (b : Block) → IsBegunBlock v r (blocks_behind v.per r runs size size) b → is_index_body (drafted new c b) ≡ false
 
--- Then the index has grown as it may before a file is made in the directory.
+-- Then the index has grown as it may before a file is made in the directory, and stands as it stood at first.
 abbrev pub IndexGrowsFirst : Type 0
 IndexGrowsFirst = (c : Content) (g : Geometry) (clusters : ℕ) (v : Volume) (n : ℕ) (r : Record) (runs : List Run) (size : ℕ) (q : Record) (bodies : List NewBody) (new : List Touched) → HasSizes c → g.per_cluster ≡ 8 → v.clusters ≤ cluster_limit → Stands c g clusters v
-    → GrowsFirst c v n r runs size q bodies new → HasGrownBefore c g clusters v n r (growths_by n r runs) (with_record v n q) q new
+    → GrowsFirst c v n r runs size q bodies new → HasGrownBefore c g clusters v n r (growths_by n r runs) (with_record v n q) q new × KeepsIndex c v r (drafted new c) (with_record v n q) q

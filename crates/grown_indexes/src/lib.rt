@@ -7,5 +7,6 @@
 mod laws;
 
 pub use laws::{
-    counts_among_all, counts_growths, index_grows_first, put_grows_first, puts_as_counted,
+    counts_among_all, counts_growths, index_grows_first, index_grows_next, index_raises_next,
+    put_grows_first, put_grows_next, put_raises, puts_among, puts_as_counted,
 };

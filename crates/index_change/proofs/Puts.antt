@@ -11,7 +11,7 @@ use Rattle.index_tree.specs.index_model.Indexes.{Place, node_of_block}
 use Rattle.index_tree.specs.index_model.Laws.{HoldsIndex}
 use Rattle.index_plan.specs.declared.plan.Rooted.{Rooted}
 use Rattle.index_plan.specs.Reading.{nodes_of}
-use Rattle.index_plan.specs.Laws.{InsertsInto, LevelFits, NeedsLevel, NewTree, TakesFew}
+use Rattle.index_plan.specs.Laws.{InsertsInto, LevelFits, NeedsLevel, NewTree, PlansAlong}
 use Rattle.index_plan.specs.Search.{put}
 use Rattle.index_tree.specs.declared.fault.TreeFault.TheVariants.{Deep}
 use Rattle.index_change.specs.declared.nodes_plan.NodesPlan.{NodesPlan}
@@ -22,7 +22,7 @@ use Rattle.index_change.specs.Plans.{root_room, seventeen, needs_level, PutsNew}
 use Rattle.index_change.proofs.Joining.{drawn_is}
 use Rattle.index_change.proofs.NewIndexes.{inserted_nodes, as_plan}
 use Rattle.index_change.proofs.Sizing.{short_key}
-use Rattle.index_change.proofs.Tightening.{tight_if_higher, few_taken}
+use Rattle.index_change.proofs.Tightening.{tight_if_higher, few_taken, planned_is}
 use Rattle.index_change.proofs.Tall.{root_raws, index_height}
 
 module _ (p : Place) (upper value name : List ℕ) (used : ℕ) (key : Key) (fresh : List ℕ) (root : List Raw) where
@@ -45,7 +45,7 @@ module _ (p : Place) (upper value name : List ℕ) (used : ℕ) (key : Key) (fre
 
   -- blocks are taken only where there is no room
   abbrev pub FewIn : Rooted → Content → Type 0
-  FewIn r c = length key.value ≤ 576 → TakesFew (node_of_block c p) (goes upper name) key (record { writes = []; fresh = seventeen fresh }) root room r
+  FewIn r c = length key.value ≤ 576 → PlansAlong (node_of_block c p) (goes upper name) key (record { writes = []; fresh = seventeen fresh }) root room r
 
   low_enough : (more : Bool) (n height : ℕ) → (IsTrue more → height < 16) → n ≤ 16 → (height ≡ 16) ⊎ (height ≡ n) → n + one_if more ≤ 16
   low_enough true n height fits low (inl e) = let f = fits refl in absurd (omega arith)
@@ -62,9 +62,10 @@ module _ (p : Place) (upper value name : List ℕ) (used : ℕ) (key : Key) (fre
       let fits = subst (λ (n : List ℕ). LevelFits (nodes_of (node_of_block c p)) (goes upper n) key (seventeen fresh) root room height) same level in
       let st = as_plan (node_of_block c p) t h.is_index.stands in
       let more : Bool = needs_level upper room key (seventeen fresh) t in
-      let takes = subst (λ (n : List ℕ). TakesFew (node_of_block c p) (goes upper n) key (record { writes = []; fresh = seventeen fresh }) root room r) same (few (short_key key.value lawful)) in
+      let takes = subst (λ (n : List ℕ). PlansAlong (node_of_block c p) (goes upper n) key (record { writes = []; fresh = seventeen fresh }) root room r) same (few (short_key key.value lawful)) in
       record {
         becomes = subst (λ (x : Rooted). NewTree (nodes_of (node_of_block c p)) t (seventeen fresh) (put (goes upper (link_of key).name) key (walk t)) (λ x. 0) room more x) (drawn_is (seventeen fresh) r n drawn) (inserted_nodes c p upper value used key fresh root r t read into h once);
+        is = sym (drawn_is (seventeen fresh) r n drawn) ∙ planned_is c p upper value used fresh root t read h enough key r takes;
         low = low_enough more (levels t) height (fits t (root_raws c p upper value root t read h) st h.is_index.height) h.is_index.height (judged c height t read h j);
         level = tight_if_higher c p upper value used fresh root t read h enough key lawful;
         few = few_taken c p upper value used fresh root t read h enough key r n.taken.items takes drawn.taken;

@@ -1,5 +1,5 @@
 -- Ways in an index lead through nodes of the size of a block.
-use Rattle.std.proofs.Common.{◌≡◌, ℕ, ◌+◌, ◌≤◌, ◌<◌, Bool, true, false, List, [], ◌∷◌, ◌++◌, All, length, length-append, leb, Option, Some, None, Result, Ok, refl, sym, ap, subst, ◌⊎◌, inl, inr, arith}
+use Rattle.std.proofs.Common.{◌∙◌, ◌≡◌, ℕ, ◌+◌, ◌≤◌, ◌<◌, Bool, true, false, List, [], ◌∷◌, ◌++◌, All, length, length-append, leb, Option, Some, None, Result, Ok, refl, sym, ap, subst, ◌⊎◌, inl, inr, arith}
 use Rattle.std.specs.Prelude.{IsTrue, insert, if◌then◌else◌}
 use Rattle.std.proofs.lemmas.Bool.Decides.{leb_tells}
 use Rattle.std.proofs.lemmas.List.{length-take}
@@ -19,7 +19,7 @@ use Rattle.index_plan.specs.declared.write.Write.{Write}
 use Rattle.index_plan.specs.Paths.{Path, Here, Below, Behind, subtree}
 use Rattle.index_plan.specs.Plans.{Plan, Spot}
 use Rattle.index_plan.specs.Growth.{fits_in}
-use Rattle.index_plan.specs.Lists.{Rise, rise, place, spot, way, overfull, overfull_by}
+use Rattle.index_plan.specs.Lists.{Rise, rise, place, spot, way, rooted, overfull, overfull_by}
 use Rattle.index_plan.specs.declared.plan.Rooted.{Rooted}
 use Rattle.index_plan.specs.Room.{Sized, tight_count, EachSpotSized, EachNodeSized}
 use Rattle.index_plan.specs.Search.{path_to}
@@ -27,7 +27,7 @@ use Rattle.index_plan.specs.declared.place.Place.{Place}
 use Rattle.index_plan.specs.declared.side.KeySide.TheVariants as sides
 use Rattle.index_plan.specs.Seeking.{NoneHere, seek_of}
 use Rattle.index_plan.specs.Takings.{last_chain, first_chain, drawn, none_drawn, key_of, plan_with, too_full}
-use Rattle.index_plan.specs.Laws.{Sought, TakesFew, TakesFewOut}
+use Rattle.index_plan.specs.Laws.{Sought, PlansAlong, TakesFewOut, inserted_by}
 use Rattle.index_plan.proofs.Fitting.{bytes_is}
 use Rattle.index_plan.proofs.Halves.{bytes, fits_bytes, insert_bytes}
 use Rattle.index_plan.proofs.Levels.{level_law}
@@ -178,17 +178,27 @@ module _ (c : Content) (p : Region) (upper value : List ℕ) (used : ℕ) (fresh
 
   -- ---- blocks that are taken
 
-  pub few_taken : (key : Key) (r : Rooted) (taken : List ℕ) → TakesFew (node_of_block c p) (goes upper (link_of key).name) key (record { writes = []; fresh = seventeen fresh }) root (root_room used value) r → taken ++ r.plan.fresh ≡ seventeen fresh
+  pub few_taken : (key : Key) (r : Rooted) (taken : List ℕ) → PlansAlong (node_of_block c p) (goes upper (link_of key).name) key (record { writes = []; fresh = seventeen fresh }) root (root_room used value) r → taken ++ r.plan.fresh ≡ seventeen fresh
       → length taken ≤ tight_count (way (path_to (goes upper (link_of key).name) t) t) + one_if (needs_level upper (root_room used value) key (seventeen fresh) t)
   unfolding start_of
   few_taken key r taken takes all =
       let g = goes upper (link_of key).name in
       let to = path_to g t in
       let plan0 : Plan = record { writes = []; fresh = seventeen fresh } in
-      let f = subst (λ (rt : List Raw). TakesFew (node_of_block c p) g key plan0 rt (root_room used value) r) (root_raws c p upper value root t read h) takes in
-      let n = f (way to t) (read_way (node_of_block c p) g t (as_plan (node_of_block c p) t h.is_index.stands) h.is_index.height) in
+      let f = subst (λ (rt : List Raw). PlansAlong (node_of_block c p) g key plan0 rt (root_room used value) r) (root_raws c p upper value root t read h) takes in
+      let n = (f (way to t) (read_way (node_of_block c p) g t (as_plan (node_of_block c p) t h.is_index.stands) h.is_index.height)).1 in
       let q = ap (λ (i : ℕ). one_if (overfull (root_room used value) (raws_of t) i (rise (way to t) (start_of key (seventeen fresh))))) (first_place g t) in
       omega (arith, n, q, ap length all, length-append taken r.plan.fresh)
+
+  -- the plan is that of the tree
+  pub planned_is : (key : Key) (r : Rooted) → PlansAlong (node_of_block c p) (goes upper (link_of key).name) key (record { writes = []; fresh = seventeen fresh }) root (root_room used value) r
+      → r ≡ rooted (root_room used value) (raws_of t) (place (path_to (goes upper (link_of key).name) t)) (inserted_by (path_to (goes upper (link_of key).name) t) key (seventeen fresh) t)
+  planned_is key r along_it =
+      let g = goes upper (link_of key).name in
+      let plan0 : Plan = record { writes = []; fresh = seventeen fresh } in
+      let f = subst (λ (rt : List Raw). PlansAlong (node_of_block c p) g key plan0 rt (root_room used value) r) (root_raws c p upper value root t read h) along_it in
+      let is = (f (way (path_to g t) t) (read_way (node_of_block c p) g t (as_plan (node_of_block c p) t h.is_index.stands) h.is_index.height)).0 in
+      is ∙ ap (λ (i : ℕ). rooted (root_room used value) (raws_of t) i (inserted_by (path_to g t) key (seventeen fresh) t)) (first_place g t)
 
   -- the place of a key that is found
   few_at : (clusters : ℕ) (l : Link) (gone : List ℕ) (r : Rooted) (plan : DirPlan) (s : Place) (hit : TheHit (stands upper l) t 0 s) → seek_of (node_of_block c p) (stands upper l) (raws_of t) ≡ Ok (Some s)

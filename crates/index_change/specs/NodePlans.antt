@@ -6,12 +6,12 @@ use Rattle.record_model.specs.disk_model.Content.{Content, HasSizes}
 use Rattle.record_model.specs.declared.entry.Entry.{Entry as Raw}
 use Rattle.record_model.specs.Values.{is_file_name}
 use Rattle.index_tree.specs.index_model.declared.key.Key.{Key}
-use Rattle.index_tree.specs.index_model.Trees.{Tree, walk, levels, one_if}
+use Rattle.index_tree.specs.index_model.Trees.{Tree, walk, raws_of, levels, one_if}
 use Rattle.index_tree.specs.index_model.Indexes.{Place, node_of_block, links_of}
 use Rattle.index_tree.specs.index_model.Laws.{HoldsIndex}
 use Rattle.index_plan.specs.declared.plan.Rooted.{Rooted}
-use Rattle.index_plan.specs.Laws.{NewTree, Once}
-use Rattle.index_plan.specs.Lists.{way}
+use Rattle.index_plan.specs.Laws.{NewTree, Once, inserted_by}
+use Rattle.index_plan.specs.Lists.{place, way, rooted}
 use Rattle.index_plan.specs.Reading.{nodes_of}
 use Rattle.index_plan.specs.Room.{tight_count}
 use Rattle.index_plan.specs.Search.{path_to, put}
@@ -40,9 +40,10 @@ pub record IsDrawn (fresh : List ℕ) (r : Rooted) (n : NodesPlan) : Type 0 wher
 
 -- What an index of this tree becomes by a plan of its nodes: the nodes after those that are written stand for an index below the
 -- new root that has the key at its place, and each VCN is used, or is left of the fresh ones, once. A level more comes only where
--- the root has no room, and then the index had fewer than sixteen; no block is taken without need.
+-- the root has no room, and then the index had fewer than sixteen; no block is taken without need. It is the plan of which the laws of index trees speak.
 pub record NewNodes (c : Content) (p : Place) (upper value : List ℕ) (used : ℕ) (key : Key) (fresh : List ℕ) (t : Tree) (n : NodesPlan) : Type 0 where
   pub becomes : NewTree (nodes_of (node_of_block c p)) t (seventeen fresh) (put (goes upper (link_of key).name) key (walk t)) (λ x. 0) (root_room used value) (needs_level upper (root_room used value) key (seventeen fresh) t) (rooted_of (seventeen fresh) n)
+  pub is : rooted_of (seventeen fresh) n ≡ rooted (root_room used value) (raws_of t) (place (path_to (goes upper (link_of key).name) t)) (inserted_by (path_to (goes upper (link_of key).name) t) key (seventeen fresh) t)
   pub low : levels t + one_if (needs_level upper (root_room used value) key (seventeen fresh) t) ≤ 16
   pub level : IsTrue (needs_level upper (root_room used value) key (seventeen fresh) t) → 1024 < used + bytes_more key t
   pub few : length n.taken.items ≤ tight_count (way (path_to (goes upper (link_of key).name) t) t) + one_if (needs_level upper (root_room used value) key (seventeen fresh) t)

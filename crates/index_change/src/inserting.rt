@@ -6,7 +6,7 @@ ghost use Rattle.record_model.specs.Values.{is_file_name};
 ghost use Rattle.index_tree.specs.index_model.Indexes.{node_of_block};
 ghost use Rattle.index_tree.specs.index_model.Walks.{find_of, walk_of};
 ghost use Rattle.index_plan.specs.Faults.{OnDeep};
-ghost use Rattle.index_plan.specs.Laws.{InsertsInto, LevelFits, NeedsLevel, TakesFew};
+ghost use Rattle.index_plan.specs.Laws.{InsertsInto, LevelFits, NeedsLevel, PlansAlong};
 ghost use Rattle.index_plan.specs.Lists.{own_key};
 ghost use Rattle.index_plan.specs.Reading.{nodes_of};
 ghost use Rattle.index_change.specs.Changing.{AllWereOld};
@@ -55,7 +55,7 @@ fn plan_over<V: View>(
     requires held { ForSome (V.content v.now) (λ c. HoldsNodesOf (node_of_block c (place_of dir.now)) held.now) }
     ensures planned { IfSome (V.content v.now) (λ c. IfOk result (InsertsInto (nodes_of (node_of_block c (place_of dir.now))) (goes before.now.up.now before.now.name.now) key draft.fresh root room)) }
     ensures level { IfSome (V.content v.now) (λ c. IfOk result (λ _. LevelFits (nodes_of (node_of_block c (place_of dir.now))) (goes before.now.up.now before.now.name.now) key draft.fresh root room height)) }
-    ensures taken { IfSome (V.content v.now) (λ c. IfOk result (λ planned. length key.value ≤ 576 → TakesFew (node_of_block c (place_of dir.now)) (goes before.now.up.now before.now.name.now) key draft root room planned)) }
+    ensures taken { IfSome (V.content v.now) (λ c. IfOk result (λ planned. length key.value ≤ 576 → PlansAlong (node_of_block c (place_of dir.now)) (goes before.now.up.now before.now.name.now) key draft root room planned)) }
     ensures deep { IfErr result (λ e. OnDeep e (λ h. (h ≡ height) × (16 ≤ height) × IfSome (V.content v.now) (λ c. NeedsLevel (nodes_of (node_of_block c (place_of dir.now))) (goes before.now.up.now before.now.name.now) key draft.fresh root room))) }
 {
     let mut nodes = HeldNodes { v, dir, held };
@@ -91,7 +91,7 @@ impl<'a> Insertion<'a> {
         requires held { ForSome (V.content v.now) (λ c. HoldsNodesOf (node_of_block c (place_of self.now.dir.now)) held.now) }
         ensures planned { IfSome (V.content v.now) (λ c. IfOk result (InsertsInto (nodes_of (node_of_block c (place_of self.now.dir.now))) (goes self.now.up.now self.now.name.now) (own_key self.now.key.now) (seventeen self.now.fresh.now) self.now.root.now (root_room self.now.dir.now.used self.now.dir.now.root))) }
         ensures level { IfSome (V.content v.now) (λ c. IfOk result (λ _. LevelFits (nodes_of (node_of_block c (place_of self.now.dir.now))) (goes self.now.up.now self.now.name.now) (own_key self.now.key.now) (seventeen self.now.fresh.now) self.now.root.now (root_room self.now.dir.now.used self.now.dir.now.root) height)) }
-        ensures taken { IfSome (V.content v.now) (λ c. IfOk result (λ planned. length self.now.key.now.key ≤ 576 → TakesFew (node_of_block c (place_of self.now.dir.now)) (goes self.now.up.now self.now.name.now) (own_key self.now.key.now) (record { writes = []; fresh = seventeen self.now.fresh.now }) self.now.root.now (root_room self.now.dir.now.used self.now.dir.now.root) planned)) }
+        ensures taken { IfSome (V.content v.now) (λ c. IfOk result (λ planned. length self.now.key.now.key ≤ 576 → PlansAlong (node_of_block c (place_of self.now.dir.now)) (goes self.now.up.now self.now.name.now) (own_key self.now.key.now) (record { writes = []; fresh = seventeen self.now.fresh.now }) self.now.root.now (root_room self.now.dir.now.used self.now.dir.now.root) planned)) }
         ensures deep { IfErr result (λ e. OnDeep e (λ h. (h ≡ height) × (16 ≤ height) × IfSome (V.content v.now) (λ c. NeedsLevel (nodes_of (node_of_block c (place_of self.now.dir.now))) (goes self.now.up.now self.now.name.now) (own_key self.now.key.now) (seventeen self.now.fresh.now) self.now.root.now (root_room self.now.dir.now.used self.now.dir.now.root)))) }
     {
         let root = copy_of(self.alloc, self.root)?;

@@ -1,2 +1,4 @@
 pub mod Grown
+pub mod Levels
+pub mod Raised
 pub mod Streams

@@ -7,4 +7,4 @@
 
 mod laws;
 
-pub use laws::{grown_is_edit, index_streams_stand};
+pub use laws::{grown_is_edit, index_streams_stand, levels_are_read, raised_is_edit};

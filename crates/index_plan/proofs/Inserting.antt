@@ -11,7 +11,7 @@ use Rattle.index_plan.specs.Plans.{Plan, Spot}
 use Rattle.index_plan.specs.Lists.{rise, rooted, overfull, place, way}
 use Rattle.index_plan.specs.Reading.{NodeReads, nodes_of, way_of, first_stop}
 use Rattle.index_plan.specs.Room.{tight_count}
-use Rattle.index_plan.specs.Laws.{NewTree, InsertsInto, AsLevel, TakesFew, inserted_by}
+use Rattle.index_plan.specs.Laws.{NewTree, InsertsInto, AsLevel, PlansAlong, inserted_by}
 use Rattle.index_plan.proofs.Ways.{first_place, read_way}
 use Rattle.index_plan.proofs.Whole.{insert_law}
 
@@ -42,8 +42,11 @@ as_level reads goes new root room at path plan P empty is_at is_path full t root
     ∙ ap (λ (w : List Write). overfull room (raws_of t) (place (path_to goes t)) (rise (way (path_to goes t) t) (record { pending = Some (raw new None); plan = record { writes = w; fresh = fresh } }))) empty in
     subst P whole full
 
-pub takes_few : (reads : NodeReads) (goes : Key → Bool) (root : List Raw) (room at : ℕ) (path : List Spot) (new : Key) (plan : Plan) (planned : Rooted) → at ≡ first_stop goes root → way_of reads goes root ≡ Ok path → length plan.fresh ≤ length planned.plan.fresh + tight_count path + one_if (overfull room root at (rise path (record { pending = Some (raw new None); plan = plan }))) → TakesFew reads goes new plan root room planned
-takes_few reads goes root room at path new plan planned is_at is h spots is_way =
-    let same : path ≡ spots = ok_is _ _ (sym is ∙ is_way) in
-    subst (λ (l : List Spot). length plan.fresh ≤ length planned.plan.fresh + tight_count l + one_if (overfull room root (first_stop goes root) (rise l (record { pending = Some (raw new None); plan = plan })))) same
-    (subst (λ (i : ℕ). length plan.fresh ≤ length planned.plan.fresh + tight_count path + one_if (overfull room root i (rise path (record { pending = Some (raw new None); plan = plan })))) is_at h)
+pub plans_along : (reads : NodeReads) (goes : Key → Bool) (root : List Raw) (room at : ℕ) (path : List Spot) (new : Key) (plan : Plan) (planned : Rooted) → at ≡ first_stop goes root → way_of reads goes root ≡ Ok path → planned ≡ rooted room root at (rise path (record { pending = Some (raw new None); plan = plan }))
+    → length plan.fresh ≤ length planned.plan.fresh + tight_count path + one_if (overfull room root at (rise path (record { pending = Some (raw new None); plan = plan }))) → PlansAlong reads goes new plan root room planned
+plans_along reads goes root room at path new plan planned is_at is_path is few spots is_way =
+    let same : path ≡ spots = ok_is _ _ (sym is_path ∙ is_way) in (
+      is ∙ ap (λ (i : ℕ). rooted room root i (rise path (record { pending = Some (raw new None); plan = plan }))) is_at ∙ ap (λ (l : List Spot). rooted room root (first_stop goes root) (rise l (record { pending = Some (raw new None); plan = plan }))) same,
+      subst (λ (l : List Spot). length plan.fresh ≤ length planned.plan.fresh + tight_count l + one_if (overfull room root (first_stop goes root) (rise l (record { pending = Some (raw new None); plan = plan })))) same
+          (subst (λ (i : ℕ). length plan.fresh ≤ length planned.plan.fresh + tight_count path + one_if (overfull room root i (rise path (record { pending = Some (raw new None); plan = plan })))) is_at few),
+    )

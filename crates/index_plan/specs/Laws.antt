@@ -83,10 +83,12 @@ NeedsLevel nodes goes new fresh root room = AsLevel nodes goes new fresh root ro
 abbrev pub LevelFits : (ℕ → Option (List Raw)) → (Key → Bool) → Key → List ℕ → List Raw → ℕ → ℕ → Type 0
 LevelFits nodes goes new fresh root room height = AsLevel nodes goes new fresh root room (λ more. IsTrue more → height < 16)
 
--- a fresh block is taken only for a node on the way that had fewer than 600 free bytes, or for the level
-abbrev pub TakesFew : NodeReads → (Key → Bool) → Key → Plan → List Raw → ℕ → Rooted → Type 0
-TakesFew reads goes new plan root room planned = (path : List Spot) → way_of reads goes root ≡ Ok path
-    → length plan.fresh ≤ length planned.plan.fresh + tight_count path + one_if (overfull room root (first_stop goes root) (rise path (record { pending = Some (raw new None); plan = plan })))
+-- Along the way that is read, the plan is the one of which the laws speak; and a fresh block is taken only for a node on the way that had fewer than
+-- 600 free bytes, or for the level.
+abbrev pub PlansAlong : NodeReads → (Key → Bool) → Key → Plan → List Raw → ℕ → Rooted → Type 0
+PlansAlong reads goes new plan root room planned = (path : List Spot) → way_of reads goes root ≡ Ok path
+    → let r = rise path (record { pending = Some (raw new None); plan = plan }) in
+    (planned ≡ rooted room root (first_stop goes root) r) × (length plan.fresh ≤ length planned.plan.fresh + tight_count path + one_if (overfull room root (first_stop goes root) r))
 
 -- ---- removal
 

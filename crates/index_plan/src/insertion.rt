@@ -1,6 +1,6 @@
 ghost use Rattle.std.specs.Prelude.{◌≡◌, ◌<◌, ◌≤◌, [], IfOk, IfErr, IfSome, length};
 ghost use Rattle.index_plan.specs.Faults.{AlongWay, Fails, OnAbsent, OnDeep};
-ghost use Rattle.index_plan.specs.Laws.{InsertsInto, LevelFits, NeedsLevel, TakesFew};
+ghost use Rattle.index_plan.specs.Laws.{InsertsInto, LevelFits, NeedsLevel, PlansAlong};
 ghost use Rattle.index_plan.specs.Reading.{nodes_of, way_of};
 ghost use Rattle.index_plan.specs.Room.{EachFits, RootSized};
 
@@ -39,7 +39,7 @@ pub fn plan_insert<N: Nodes, T: Test>(
     ensures plan { IfOk result (λ planned. IfSome (N.reads nodes.old) (λ reads. InsertsInto (nodes_of reads) (T.goes test.now) key draft.fresh root room planned)) }
     ensures level { IfOk result (λ _. IfSome (N.reads nodes.old) (λ reads. LevelFits (nodes_of reads) (T.goes test.now) key draft.fresh root room height)) }
     ensures fits { IfOk result (λ planned. RootSized root → length key.value ≤ 576 → EachFits planned.plan.writes) }
-    ensures taken { IfOk result (λ planned. length key.value ≤ 576 → IfSome (N.reads nodes.old) (λ reads. TakesFew reads (T.goes test.now) key draft root room planned)) }
+    ensures taken { IfOk result (λ planned. length key.value ≤ 576 → IfSome (N.reads nodes.old) (λ reads. PlansAlong reads (T.goes test.now) key draft root room planned)) }
     ensures way { IfSome (N.reads nodes.old) (λ reads. AlongWay result (way_of reads (T.goes test.now) root)) }
     ensures deep { IfErr result (λ e. OnDeep e (λ h. (h ≡ height) × (16 ≤ height) × IfSome (N.reads nodes.old) (λ reads. NeedsLevel (nodes_of reads) (T.goes test.now) key draft.fresh root room))) }
     ensures present { IfErr result (λ e. OnAbsent e ⊥) }

@@ -110,6 +110,10 @@ no_runs id = ap runs_or (filled_read 0 (pairs_of []) [] pairs_read)
 placed_by : (id : ℕ) → joined (normal (with_id id empty_blocks) ∷ []) ≡ Some (Placed (unplaced 0))
 placed_by id = ap (λ (runs : List Run). Some (Placed (record { runs = runs; allocated = 0; real = 0; initialised = 0 }))) (append-nil (attribute_runs (normal (with_id id empty_blocks))) ∙ no_runs id)
 
+pub empty_placed : (id : ℕ) → joined (with_id id empty_blocks ∷ []) ≡ Some (Placed (unplaced 0))
+unfolding attribute_runs
+empty_placed id = ap (λ (runs : List Run). Some (Placed (record { runs = runs; allocated = 0; real = 0; initialised = 0 }))) (append-nil (attribute_runs (with_id id empty_blocks)) ∙ ap runs_or pairs_read)
+
 pub blocks_placed : (r : Record) → HasNoStreams r → blocks_in (indexed_record r) ≡ Some (Placed (unplaced 0))
 unfolding stream_of
 blocks_placed r none = ap joined (one_blocks r none) ∙ placed_by (new_id r)
@@ -237,7 +241,7 @@ made_fits r fits few =
     let more = size_put (place_of index_allocation names_index r.attrs) (own_blocks r) r.attrs in
     attr_fits empty_bits (with_blocks r) (attr_fits empty_blocks r fits (omega (arith, few)) short_blocks) (omega (arith, few, more)) short_bits
 
-blocks_pairs : has_fitting_pairs empty_blocks ≡ true
+pub blocks_pairs : has_fitting_pairs empty_blocks ≡ true
 blocks_pairs = ap (span (placed_sizes 8 0 0 (unplaced 0))) pairs_read
 
 pub made_pairs : (r : Record) → has_all_pairs r ≡ true → has_all_pairs (indexed_record r) ≡ true

@@ -15,5 +15,5 @@ pub use directory_growth::{BitsChange, DataFault, FreeBits, IndexChange};
 pub use file_record::FileRec;
 pub use growing::index_after_any;
 pub use laws::{any_index_has_room, index_is_counted};
-pub use making::{has_blocks, make_index};
+pub use making::{has_bits, has_blocks, make_index, with_empty_index};
 pub use state_model::ClusterSize;

@@ -1,6 +1,6 @@
 //! Records of directories whose index gets blocks and their bitmap.
 ghost use Rattle.std.specs.Prelude.{◌≡◌, ◌<◌, ◌≤◌, ◌^◌, IfOk, length};
-ghost use Rattle.record_model.specs.Constants.{index_allocation};
+ghost use Rattle.record_model.specs.Constants.{bitmap_type, index_allocation};
 ghost use Rattle.resized_streams.specs.Resizing.{unplaced};
 ghost use Rattle.made_data.specs.step_model.Used.{new_attr};
 ghost use Rattle.record_model.specs.Constants.{names_index};
@@ -23,6 +23,18 @@ pub fn has_blocks(file: &FileRec) -> bool
     ensures value { result ≡ has_stream index_allocation file.now }
 {
     file.attrs().as_slice().iter().any(|attr| is_attribute_of(INDEX_ALLOCATION, &NAMES_INDEX, attr))
+}
+
+/// Whether the index of a directory has a bitmap of its blocks (Linux-NTFS documentation, "$BITMAP"),
+/// in the record or in clusters. It takes time linear in the record's attributes.
+#[tactic(auto, unfolding(crate::specs::Made::has_stream))]
+pub fn has_bits(file: &FileRec) -> bool
+    ensures value { result ≡ has_stream bitmap_type file.now }
+{
+    file.attrs()
+        .as_slice()
+        .iter()
+        .any(|attr| is_attribute_of(BITMAP_TYPE, &NAMES_INDEX, attr))
 }
 
 // A value without bytes of a stream of the index.
@@ -64,9 +76,10 @@ fn empty_blocks(alloc: Global) -> Result<Attr, Memory>
     placed_attr(alloc, per, &no_clusters(alloc), &attr)
 }
 
-// The record with the blocks and a bitmap of no bytes.
+/// The same as [`make_index`] makes, before it is written: all attributes of the directory stay as
+/// they are.
 #[tactic(auto, using(made_data::proofs::Standing::size_put))]
-fn with_empty_index(alloc: Global, file: &FileRec) -> Result<FileRec, Memory>
+pub fn with_empty_index(alloc: Global, file: &FileRec) -> Result<FileRec, Memory>
     requires few { length file.now.attrs < 2 ^ 10 }
     ensures value { IfOk result (λ r. r ≡ with_empty_index file.now) }
 {

@@ -57,18 +57,18 @@ use Rattle.made_trees.proofs.written_values.Sparing.{elsewhere}
 use Rattle.made_trees.specs.file_makes.declared.newfile.NewFile.{NewFile}
 use Rattle.made_trees.specs.file_makes.Making.{made_record}
 use Rattle.made_trees.specs.made_files.Made.{made_link, made_key, rooted_directory, IsMadeEdit}
-use Rattle.made_trees.specs.Created.{timed_directory, timed_volume, made_volume}
+use Rattle.made_trees.specs.Created.{timed_directory, timed_volume, made_volume, MakesFileBy}
 use Rattle.made_trees.proofs.Going as going
 use Rattle.made_trees.proofs.Leaving as leaving
 use Rattle.made_steps.specs.Steps.{HasRootOf, TakesStep, MadeFilesAreSteps}
-use Rattle.made_trees.proofs.Nothing.{behind_nothing, file_leaves}
+use Rattle.made_trees.proofs.Nothing.{room_differs_not, index_stays, behind_nothing, file_leaves}
 use Rattle.made_trees.specs.Behind.{MakesFileBehind}
 use Rattle.made_trees.specs.Left.{StaysGrown}
 use Rattle.made_trees.specs.change_steps.Found.{HasChange, Finds}
 use Rattle.change_lookup.specs.declared.found.Found.TheVariants.{Place as PlaceFound}
 use Rattle.file_tree.specs.Trees.{node_at as node_by_number}
 use Rattle.made_trees.proofs.step_model.Planning.{plans_placed}
-use Rattle.made_steps.specs.Behind.{MayRise, TakesStepBehind, MadeBehindAreSteps}
+use Rattle.made_steps.specs.Behind.{MayRise, table_used, TakesStepBehind, MadeBehindAreSteps}
 use Rattle.node_spreads.proofs.Counting.{blocks_counted}
 use Rattle.node_spreads.proofs.Widening.{spreads_wider}
 use Rattle.made_trees.specs.Grown.{KeepsIndex}
@@ -86,10 +86,12 @@ pub record Takes (c : Content) (g : Geometry) (clusters : ℕ) (v : Volume) (s :
   pub finds : Finds c v (Create path) (PlaceFound directory m.name m.file)
   pub node : node_by_number (tree_of c v).nodes directory.number ≡ Some a
   pub by : MakesFileBehind c g clusters v s numbers m a r growths u now grown value used t fresh nodes timed new
+  pub index : KeepsIndex c v r (drafted grown c) u now
   pub short : length m.name ≤ 255
   pub least : used_of r.attrs ≤ used
   pub taken : more ≤ length nodes.taken.items
   pub enough : wanted_by growths ≤ needed (tree_of c v) 0 (Create path) a
+  pub table : full_row (table_used c v) ≡ None
   pub level : needs_level (upper_of c v) (root_room used value) (made_key m) (seventeen fresh) t ≡ true → MayRise c v a.number r value (made_key m) t
 
 module _ (times_set : TimesAreSet) (reads : NewFileReads) (there_is : FoundIsThere) (makings : MakingsAreSteps) (c : Content) (g : Geometry) (clusters : ℕ) (v : Volume) (s : VolumeStreams) (numbers : Extents) (path : List (List ℕ)) (m : NewFile) (directory a : Node) (r : Record) (growths : List Growth) (u : Volume) (now : Record) (grown : List Touched) (more : ℕ) (value : List ℕ) (used : ℕ) (t : Tree) (fresh : List ℕ) (nodes : NodesPlan) (timed new : List Touched)
@@ -152,6 +154,7 @@ module _ (times_set : TimesAreSet) (reads : NewFileReads) (there_is : FoundIsThe
     sized = k.by.sized;
     eight = k.by.eight;
     before = k.by.before;
+    index = k.index;
     streams = k.by.streams;
     info = k.by.info;
     mirrored_none = k.by.made.directory.mirrored_none;
@@ -231,10 +234,6 @@ module _ (times_set : TimesAreSet) (reads : NewFileReads) (there_is : FoundIsThe
   abbrev pub own : Plan
   own = made_spread c v (new_name path) a.number r two.index.tree more
 
-  grows : grows_table (tree_of c v) ≡ false
-  unfolding grows_table
-  grows = going.some_left times_set reads c g clusters v s numbers m a r growths u now grown value used t fresh nodes timed new k.by
-
   abbrev pub HasRoom : Type 0
   HasRoom = spread_used c v a.number r tree more ≤ most_used
 
@@ -290,13 +289,8 @@ module _ (times_set : TimesAreSet) (reads : NewFileReads) (there_is : FoundIsThe
   free : HasRoom → first_of (content_rows own) ≡ None
   free low =
       let short : length (new_name path) ≤ 255 = subst (λ (l : List ℕ). length l ≤ 255) at.named k.short in
-      let rest : full_row (used_if (grows_table (tree_of c v)) (used_in (file_in v table_file) (table_change c v))) ≡ None = ap (λ (b : Bool). full_row (used_if b (used_in (file_in v table_file) (table_change c v)))) grows in
-      let last_ones : List ℕ = used_if (grows_table (tree_of c v)) (used_in (file_in v table_file) (table_change c v)) in
-      let full : full_row own.used ≡ None = not_full (used_of (new_file_attrs (new_name path))) (spread_used c v a.number r tree more ∷ last_ones) (never_full.made (new_name path) short) (not_full (spread_used c v a.number r tree more) last_ones low rest) in
+      let full : full_row own.used ≡ None = not_full (used_of (new_file_attrs (new_name path))) (spread_used c v a.number r tree more ∷ table_used c v) (never_full.made (new_name path) short) (not_full (spread_used c v a.number r tree more) (table_used c v) low k.table) in
       ap (λ (o : Option Reply). first_of (o ∷ None ∷ None ∷ [])) full
-
-  pub no_table : (table_change c v).growths ≡ []
-  no_table = ap (λ (b : Bool). (table_in b (cluster_bits c v) v (file_in v table_file)).growths) grows
 
   -- ---- the step
 
@@ -326,10 +320,12 @@ behind_takes c g clusters v s numbers path m directory a r growths u now grown m
   finds = k.finds;
   node = k.node;
   by = k.by;
+  index = k.index;
   short = k.short;
   least = k.least;
   taken = k.taken;
-  enough = (let little = k.little in omega (arith, little));
+  enough = k.little;
+  table = k.table;
   level = k.level;
 }
 
@@ -338,8 +334,7 @@ unfolding behind_takes
 behind_steps times_set reads there_is makings c g clusters v s numbers path m directory a r growths u now grown more value used t fresh nodes timed new k =
     let takes : Takes c g clusters v s numbers path m directory a r growths u now grown more value used t fresh nodes timed new = behind_takes c g clusters v s numbers path m directory a r growths u now grown more value used t fresh nodes timed new k in
     let same : growths ≡ (own times_set reads there_is makings c g clusters v s numbers path m directory a r growths u now grown more value used t fresh nodes timed new takes).growths =
-    (sym (k.comes (tree times_set reads there_is makings c g clusters v s numbers path m directory a r growths u now grown more value used t fresh nodes timed new takes) (has_root times_set reads there_is makings c g clusters v s numbers path m directory a r growths u now grown more value used t fresh nodes timed new takes))
-    ∙ ap (λ (l : List Growth). l ++ (spread_comes c v a.number r (tree times_set reads there_is makings c g clusters v s numbers path m directory a r growths u now grown more value used t fresh nodes timed new takes) more).growths) (sym (no_table times_set reads there_is makings c g clusters v s numbers path m directory a r growths u now grown more value used t fresh nodes timed new takes)))
+    sym (k.comes (tree times_set reads there_is makings c g clusters v s numbers path m directory a r growths u now grown more value used t fresh nodes timed new takes) (has_root times_set reads there_is makings c g clusters v s numbers path m directory a r growths u now grown more value used t fresh nodes timed new takes))
     in
     stepped times_set reads there_is makings c g clusters v s numbers path m directory a r growths u now grown more value used t fresh nodes timed new takes
     (k.room (tree times_set reads there_is makings c g clusters v s numbers path m directory a r growths u now grown more value used t fresh nodes timed new takes) (has_root times_set reads there_is makings c g clusters v s numbers path m directory a r growths u now grown more value used t fresh nodes timed new takes))
@@ -347,30 +342,45 @@ behind_steps times_set reads there_is makings c g clusters v s numbers path m di
 
 -- ---- behind a draft that touched nothing
 
-file_takes : (c : Content) (g : Geometry) (clusters : ℕ) (v : Volume) (s : VolumeStreams) (numbers : Extents) (path : List (List ℕ)) (m : NewFile) (directory a : Node) (r : Record) (value : List ℕ) (t : Tree) (fresh : List ℕ) (nodes : NodesPlan) (timed new : List Touched)
+-- some number was spare, so the file table stays
+pub none_grows : TimesAreSet → NewFileReads → (c : Content) (g : Geometry) (clusters : ℕ) (v : Volume) (s : VolumeStreams) (numbers : Extents) (m : NewFile) (a : Node) (r : Record) (value : List ℕ) (used : ℕ) (t : Tree) (fresh : List ℕ) (nodes : NodesPlan) (timed new : List Touched)
+    → MakesFileBy c g clusters v s numbers m a r value used t fresh nodes timed new → grows_table (tree_of c v) ≡ false
+unfolding grows_table behind_nothing
+none_grows times_set reads c g clusters v s numbers m a r value used t fresh nodes timed new k =
+    going.some_left times_set reads c g clusters v s numbers m a r [] v r [] value used t fresh nodes timed new (behind_nothing c g clusters v s numbers m a r value used t fresh nodes timed new [] k tt tt) (room_differs_not c v k.sized)
+
+pub no_table : (c : Content) (v : Volume) → grows_table (tree_of c v) ≡ false → (table_change c v).growths ≡ []
+no_table c v stays = ap (λ (b : Bool). (table_in b (cluster_bits c v) v (file_in v table_file)).growths) stays
+
+pub none_used : (c : Content) (v : Volume) → grows_table (tree_of c v) ≡ false → full_row (table_used c v) ≡ None
+none_used c v stays = ap (λ (b : Bool). full_row (used_if b (used_in (file_in v table_file) (table_change c v)))) stays
+
+file_takes : TimesAreSet → NewFileReads → (c : Content) (g : Geometry) (clusters : ℕ) (v : Volume) (s : VolumeStreams) (numbers : Extents) (path : List (List ℕ)) (m : NewFile) (directory a : Node) (r : Record) (value : List ℕ) (t : Tree) (fresh : List ℕ) (nodes : NodesPlan) (timed new : List Touched)
     → TakesStep c g clusters v s numbers path m directory a r value t fresh nodes timed new → Takes c g clusters v s numbers path m directory a r [] v r [] 0 value (used_of r.attrs) t fresh nodes timed new
-file_takes c g clusters v s numbers path m directory a r value t fresh nodes timed new k = record {
+file_takes times_set reads c g clusters v s numbers path m directory a r value t fresh nodes timed new k = record {
   has = k.has;
   finds = k.finds;
   node = k.node;
   by = behind_nothing c g clusters v s numbers m a r value (used_of r.attrs) t fresh nodes timed new [] k.by tt tt;
+  index = index_stays c v r k.by.sized;
   short = k.short;
   least = omega arith;
   taken = omega arith;
   enough = omega arith;
+  table = none_used c v (none_grows times_set reads c g clusters v s numbers m a r value (used_of r.attrs) t fresh nodes timed new k.by);
   level = λ up. absurd (both_ways _ k.flat up);
 }
 
 pub file_steps : TimesAreSet → NewFileReads → FoundIsThere → MakingsAreSteps → MadeFilesAreSteps
 unfolding file_takes behind_nothing
 file_steps times_set reads there_is makings c g clusters v s numbers path m directory a r value t fresh nodes timed new k =
-    let takes : Takes c g clusters v s numbers path m directory a r [] v r [] 0 value (used_of r.attrs) t fresh nodes timed new = file_takes c g clusters v s numbers path m directory a r value t fresh nodes timed new k in
+    let takes : Takes c g clusters v s numbers path m directory a r [] v r [] 0 value (used_of r.attrs) t fresh nodes timed new = file_takes times_set reads c g clusters v s numbers path m directory a r value t fresh nodes timed new k in
     let root = has_root times_set reads there_is makings c g clusters v s numbers path m directory a r [] v r [] 0 value (used_of r.attrs) t fresh nodes timed new takes in
     let low = k.room (tree times_set reads there_is makings c g clusters v s numbers path m directory a r [] v r [] 0 value (used_of r.attrs) t fresh nodes timed new takes) root in
     let plan : Plan = own times_set reads there_is makings c g clusters v s numbers path m directory a r [] v r [] 0 value (used_of r.attrs) t fresh nodes timed new takes in
     let placed : AllPlaced (cluster_bits c v) plan.growths = plans_placed c v (Create path) 0 plan (is_plan times_set reads there_is makings c g clusters v s numbers path m directory a r [] v r [] 0 value (used_of r.attrs) t fresh nodes timed new takes low) in
     let stay : AllByRecursion (StaysGrown v m.parent.number) plan.growths =
     subst (λ (l : List Growth). AllByRecursion (StaysGrown v m.parent.number) (l ++ (spread_comes c v a.number r (tree times_set reads there_is makings c g clusters v s numbers path m directory a r [] v r [] 0 value (used_of r.attrs) t fresh nodes timed new takes) 0).growths))
-    (sym (no_table times_set reads there_is makings c g clusters v s numbers path m directory a r [] v r [] 0 value (used_of r.attrs) t fresh nodes timed new takes)) (k.stay (tree times_set reads there_is makings c g clusters v s numbers path m directory a r [] v r [] 0 value (used_of r.attrs) t fresh nodes timed new takes) root)
+    (sym (no_table c v (none_grows times_set reads c g clusters v s numbers m a r value (used_of r.attrs) t fresh nodes timed new k.by))) (k.stay (tree times_set reads there_is makings c g clusters v s numbers path m directory a r [] v r [] 0 value (used_of r.attrs) t fresh nodes timed new takes) root)
     in
     stepped times_set reads there_is makings c g clusters v s numbers path m directory a r [] v r [] 0 value (used_of r.attrs) t fresh nodes timed new takes low (file_leaves times_set reads c g clusters v s numbers m a r value (used_of r.attrs) t fresh nodes timed new plan.growths k.by placed stay)

@@ -113,7 +113,7 @@ module _ (times_set : TimesAreSet) (c : Content) (g : Geometry) (clusters : ℕ)
   upper_same : upper_of middle x ≡ upper_of c v
   upper_same =
       let bytes : SameUpper first middle u = subst (λ (y : Content). SameUpper first y u) edit.1.0.content (values_written.leads first g clusters u n now p q edit.0 sized_first state_first edit.1.1).agrees.upper in
-      upper_by first middle u x refl (elsewhere u n upcase_file q (λ same. k.before.own.apart.upcase (sym same))) bytes ∙ k.before.index.upper
+      upper_by first middle u x refl (elsewhere u n upcase_file q (λ same. k.before.own.apart.upcase (sym same))) bytes ∙ k.index.upper
 
   place_is : index_place u.per q ≡ index_place u.per now
   unfolding index_place index_stream
@@ -139,12 +139,12 @@ module _ (times_set : TimesAreSet) (c : Content) (g : Geometry) (clusters : ℕ)
   nodes_same =
       ap (λ (y : Place). nodes_of (node_of_block middle y)) place_is
       ∙ ap nodes_of (fun_ext (λ i. same_node first middle (index_place u.per now) i same_nodes))
-      ∙ fun_ext (λ i. k.before.index.nodes i)
+      ∙ fun_ext (λ i. k.index.nodes i)
 
   pub keeps : KeepsIndex c v r middle x q
   keeps = record {
     upper = upper_same;
-    root = root_written p ∙ same_root is_info now p rewritten root_spares ∙ k.before.index.root;
+    root = root_written p ∙ same_root is_info now p rewritten root_spares ∙ k.index.root;
     nodes = λ i. ap (λ (f : ℕ → Option (List Raw)). f i) nodes_same;
   }
 
@@ -159,6 +159,7 @@ same_read c d v u r q k = fun_ext (λ i. k.nodes i)
 new_nodes : (c d : Content) (here there : Place) (upper value : List ℕ) (used : ℕ) (key : Key) (fresh : List ℕ) (t : Tree) (n : NodesPlan) → nodes_of (node_of_block c here) ≡ nodes_of (node_of_block d there) → NewNodes c here upper value used key fresh t n → NewNodes d there upper value used key fresh t n
 new_nodes c d here there upper value used key fresh t n same k = record {
   becomes = subst (λ (f : ℕ → Option (List Raw)). NewTree f t (seventeen fresh) (put (goes upper (link_of key).name) key (walk t)) (λ x. 0) (root_room used value) (needs_level upper (root_room used value) key (seventeen fresh) t) (rooted_of (seventeen fresh) n)) same k.becomes;
+  is = k.is;
   low = k.low;
   level = k.level;
   few = k.few;

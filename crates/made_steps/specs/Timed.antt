@@ -28,6 +28,7 @@ pub record PutsTimesBehind (c : Content) (g : Geometry) (clusters : ℕ) (v : Vo
   pub sized : HasSizes c
   pub eight : g.per_cluster ≡ 8
   pub before : HasGrownBefore c g clusters v n r growths u q grown
+  pub index : KeepsIndex c v r (drafted grown c) u q
   pub streams : AreStreamsOf u s
   pub info : has_type standard_information q ≡ true
   pub mirrored_none : 4 ≤ n

@@ -38,6 +38,7 @@ use Rattle.plan_bodies.proofs.Putting.{sized_with}
 use Rattle.plan_draft.specs.declared.touched.Touched.{Touched}
 use Rattle.plan_draft.specs.Touching.{bodies_of}
 use Rattle.plan_draft.specs.Drafts.{drafted}
+use Rattle.plan_blocks.specs.Blocks.{RoomDiffers}
 use Rattle.written_values.specs.plan_model.Attributes.{RewritesValues}
 use Rattle.written_values.specs.plan_model.Informed.{is_info, with_info, InfoDiffers}
 use Rattle.written_values.specs.plan_model.Made.{HasMade}
@@ -155,7 +156,8 @@ module _ (times_set : TimesAreSet) (reads : NewFileReads) (c : Content) (g : Geo
   dir_x : file_in x dir ≡ Some q
   dir_x = (files_going.written first g clusters u dir now p q edit.0 first_sized first_stands edit.1.1).own.file
 
-  names_same : (i : ℕ) → links_at (files_by_number x) i ≡ links_at (files_by_number v) i
+  -- those with the times are those where the directory has grown
+  names_same : (i : ℕ) → links_at (files_by_number x) i ≡ links_at (files_by_number u) i
   unfolding links_at
   names_same i = elim (cases_eq i dir) [
     | inl is ↦
@@ -163,20 +165,40 @@ module _ (times_set : TimesAreSet) (reads : NewFileReads) (c : Content) (g : Geo
         ∙ ap (file_links dir) dir_x
         ∙ links_written dir p
         ∙ same_links is_info dir now p anew names_spared
-        ∙ k.before.names
-        ∙ sym (ap (λ (j : ℕ). file_links j (file_in v j)) is ∙ ap (file_links dir) k.own.file)
-    | inr other ↦ ap (file_links i) (elsewhere u dir i q other ∙ k.before.others i other)
+        ∙ sym (ap (λ (j : ℕ). file_links j (file_in u j)) is ∙ ap (file_links dir) k.before.own.file)
+    | inr other ↦ ap (file_links i) (elsewhere u dir i q other)
   ]
 
-  count_same : count_of x ≡ count_of v
+  count_same : count_of x ≡ count_of u
   unfolding tree_of tree_with
-  count_same = informed.count ∙ k.before.tree.count
+  count_same = informed.count
 
   outside : is_in_system (files_by_number x) (count_of x) dir ≡ false
   outside =
       ap (λ (j : ℕ). is_in_system (files_by_number x) j dir) count_same
-      ∙ in_system_kept (λ i. true) (files_by_number v) (files_by_number x) (count_of v) dir (record { names = λ i within. names_same i; up = λ i j within is. refl }) refl
+      ∙ in_system_kept (λ i. true) (files_by_number u) (files_by_number x) (count_of u) dir (record { names = λ i within. names_same i; up = λ i j within is. refl }) refl
+      ∙ k.before.system
       ∙ k.outside
+
+  -- ---- the tree where the directory has grown
+
+  nodes_before : (i : ℕ) → node_by_number (tree_of first u).nodes i ≡ node_by_number (tree_of c v).nodes i
+  nodes_before i = elim k.before.tree [
+    | inl same ↦ same.nodes i
+    | inr came ↦ came.nodes i
+  ]
+
+  links_before : (tree_of first u).links ≡ (tree_of c v).links
+  links_before = elim k.before.tree [
+    | inl same ↦ same.links
+    | inr came ↦ came.links
+  ]
+
+  journal_before : (tree_of first u).journal ≡ (tree_of c v).journal
+  journal_before = elim k.before.tree [
+    | inl same ↦ same.journal
+    | inr came ↦ came.journal
+  ]
 
   -- ---- the file
 
@@ -207,7 +229,7 @@ module _ (times_set : TimesAreSet) (reads : NewFileReads) (c : Content) (g : Geo
 
   a_is : node_by (bytes_or first u.per) u dir now ≡ a
   unfolding node_at
-  a_is = own_node (is_nameless dir now) a (node_by (bytes_or first u.per) u dir now) (ap (some_node (bytes_or first u.per) u dir) (sym k.before.own.file) ∙ sym (tree_nodes first u dir) ∙ k.before.tree.nodes dir ∙ k.node)
+  a_is = own_node (is_nameless dir now) a (node_by (bytes_or first u.per) u dir now) (ap (some_node (bytes_or first u.per) u dir) (sym k.before.own.file) ∙ sym (tree_nodes first u dir) ∙ nodes_before dir ∙ k.node)
 
   same_info : info_of z ≡ info_of p
   same_info = info_written _ ∙ info_rooted k.made.put.plan.root q ∙ info_written p
@@ -223,7 +245,7 @@ module _ (times_set : TimesAreSet) (reads : NewFileReads) (c : Content) (g : Geo
   at_file = created.made ∙ ap Some (reads_file.node (bytes_or last w.per) w (created.system ∙ outside) refl)
 
   at_directory : node_by_number (tree_of last w).nodes dir ≡ Some (renewed a m.stamp)
-  at_directory = created.directory ∙ ap (option_map (with_info (info_of z))) (informed.node ∙ ap (option_map (with_info (info_of p))) (k.before.tree.nodes dir ∙ k.node)) ∙ ap Some now_renewed
+  at_directory = created.directory ∙ ap (option_map (with_info (info_of z))) (informed.node ∙ ap (option_map (with_info (info_of p))) (nodes_before dir ∙ k.node)) ∙ ap Some now_renewed
 
   node_there : (i : ℕ) → node_by_number (tree_of last w).nodes i ≡ with_node (new_file m.file m.stamp) (with_node (renewed a m.stamp) (node_by_number (tree_of c v).nodes)) i
   unfolding new_file changed_node
@@ -237,7 +259,7 @@ module _ (times_set : TimesAreSet) (reads : NewFileReads) (c : Content) (g : Geo
           ∙ sym (ap (λ (b : Bool). cond b (Some (new_file m.file m.stamp)) (with_node (renewed a m.stamp) (node_by_number (tree_of c v).nodes) i)) (ne_eqb i n not_file)
           ∙ ap (λ (b : Bool). cond b (Some (renewed a m.stamp)) (node_by_number (tree_of c v).nodes i)) (eq-eqb i a.number (is ∙ a_number)))
       | inr not_directory ↦
-          created.others i not_file not_directory ∙ informed.others i not_directory ∙ k.before.tree.nodes i
+          created.others i not_file not_directory ∙ informed.others i not_directory ∙ nodes_before i
           ∙ sym (ap (λ (b : Bool). cond b (Some (new_file m.file m.stamp)) (with_node (renewed a m.stamp) (node_by_number (tree_of c v).nodes) i)) (ne_eqb i n not_file)
           ∙ ap (λ (b : Bool). cond b (Some (renewed a m.stamp)) (node_by_number (tree_of c v).nodes i)) (ne_eqb i a.number (λ same. not_directory (same ∙ sym a_number))))
     ]
@@ -288,11 +310,24 @@ module _ (times_set : TimesAreSet) (reads : NewFileReads) (c : Content) (g : Geo
       ∙ ap (λ (b : Bool). cond b (spare_at middle x n) None) (and_from (leb first_user_record n) (ltb n (count_of x)) (le-leb first_user_record n k.made.number.user) (lt-ltb n (count_of x) k.made.number.within))
       ∙ was_clear.1
 
-  pub some_left : eqb (length (tree_of c v).spare) 0 ≡ false
-  some_left = some_spare (tree_of c v).spare n was_clear.0 (ap (λ (l : List FileRef). ref_at l n) (sym (informed.spare ∙ k.before.tree.spare)) ∙ was_spare)
+  spare_before : ref_at (tree_of first u).spare n ≡ Some was_clear.0
+  spare_before = ap (λ (l : List FileRef). ref_at l n) (sym informed.spare) ∙ was_spare
 
-  to_take : numbers_to_take (tree_of c v) ≡ (tree_of c v).spare
-  to_take = ap (λ (b : Bool). cond b (new_numbers (tree_of c v).count) (tree_of c v).spare) some_left
+  -- where the file table stays, some number was spare at first
+  pub some_left : RoomDiffers (tree_of c v) (tree_of first u) → eqb (length (tree_of c v).spare) 0 ≡ false
+  some_left same = ap (λ (l : List FileRef). eqb (length l) 0) (sym same.spare) ∙ some_spare (tree_of first u).spare n was_clear.0 spare_before
+
+  numbers_before : (i : ℕ) → ref_at (tree_of first u).spare i ≡ ref_at (numbers_to_take (tree_of c v)) i
+  numbers_before i = elim k.before.tree [
+    | inl same ↦ ap (λ (l : List FileRef). ref_at l i) (same.spare ∙ sym (ap (λ (b : Bool). cond b (new_numbers (tree_of c v).count) (tree_of c v).spare) (some_left same)))
+    | inr came ↦ came.spare i
+  ]
+
+  count_before : (tree_of first u).count ≡ count_to_take (tree_of c v)
+  count_before = elim k.before.tree [
+    | inl same ↦ same.count ∙ sym (ap (λ (b : Bool). cond b ((tree_of c v).count + more_records) (tree_of c v).count) (some_left same))
+    | inr came ↦ came.count
+  ]
 
   spare_there : (i : ℕ) → ref_at (tree_of last w).spare i ≡ cond (eqb i n) None (ref_at (numbers_to_take (tree_of c v)) i)
   spare_there i = elim (cases_eq i n) [
@@ -301,7 +336,8 @@ module _ (times_set : TimesAreSet) (reads : NewFileReads) (c : Content) (g : Geo
         ∙ sym (ap (λ (b : Bool). cond b None (ref_at (numbers_to_take (tree_of c v)) i)) (eq-eqb i n is))
     | inr not_file ↦
         tree_spare last w i ∙ spare_by i not_file ∙ sym (tree_spare middle x i)
-        ∙ ap (λ (l : List FileRef). ref_at l i) (informed.spare ∙ k.before.tree.spare ∙ sym to_take)
+        ∙ ap (λ (l : List FileRef). ref_at l i) informed.spare
+        ∙ numbers_before i
         ∙ sym (ap (λ (b : Bool). cond b None (ref_at (numbers_to_take (tree_of c v)) i)) (ne_eqb i n not_file))
   ]
 
@@ -316,7 +352,7 @@ module _ (times_set : TimesAreSet) (reads : NewFileReads) (c : Content) (g : Geo
       let front : List Link = parts.front in
       let behind : List Link = parts.behind in
       let all : IsPermutation (made_link m ∷ (front ++ behind)) (front ++ made_link m ∷ behind) = IsPermutation-sym _ _ (IsPermutation-middle front (made_link m) behind) in
-      let old : front ++ behind ≡ (tree_of c v).links = sym parts.was ∙ informed.links ∙ k.before.tree.links in
+      let old : front ++ behind ≡ (tree_of c v).links = sym parts.was ∙ informed.links ∙ links_before in
       subst (λ (l : List Link). IsPermutation (new_link a m.name m.file ∷ (tree_of c v).links) l) (sym parts.is)
       (subst (λ (l : List Link). IsPermutation (new_link a m.name m.file ∷ l) (front ++ made_link m ∷ behind)) old
       (subst (λ (l : Link). IsPermutation (l ∷ (front ++ behind)) (front ++ made_link m ∷ behind)) same_link all))
@@ -324,7 +360,7 @@ module _ (times_set : TimesAreSet) (reads : NewFileReads) (c : Content) (g : Geo
   -- ---- the tree
 
   count_there : (tree_of last w).count ≡ count_to_take (tree_of c v)
-  count_there = created.count ∙ informed.count ∙ k.before.tree.count ∙ sym (ap (λ (b : Bool). cond b ((tree_of c v).count + more_records) (tree_of c v).count) some_left)
+  count_there = created.count ∙ informed.count ∙ count_before
 
   tree_there : (most : ℕ) → wanted_by growths ≤ most → HasCreated (tree_of c v) most m.stamp a m.name m.file (tree_of last w)
   tree_there most enough = record {
@@ -332,7 +368,7 @@ module _ (times_set : TimesAreSet) (reads : NewFileReads) (c : Content) (g : Geo
     spare = spare_there;
     links = links_there;
     count = count_there;
-    journal = created.journal ∙ informed.journal ∙ k.before.tree.journal;
+    journal = created.journal ∙ informed.journal ∙ journal_before;
     room = (let one = created.room in let two = informed.room in let fell = k.before.room in omega (arith, one, two, fell, enough));
   }
 

@@ -1,5 +1,5 @@
 -- What a new file leaves behind a draft in which the index of its directory has grown: the runs of all streams, and all bodies but those that it puts.
-use Rattle.std.proofs.Common.{◌≡◌, ◌≢◌, ◌⊎◌, ℕ, ◌<◌, Bool, true, false, not, ◌&&◌, ◌||◌, eqb, nat_eq, List, [], ◌∷◌, ◌++◌, Option, Some, None, refl, sym, ap, subst, ◌∙◌, inl, inr}
+use Rattle.std.proofs.Common.{◌≡◌, ◌≢◌, ◌⊎◌, ℕ, ◌<◌, Bool, true, false, not, ◌&&◌, ◌||◌, eqb, nat_eq, List, [], ◌∷◌, ◌++◌, Option, Some, None, refl, sym, ap, subst, ◌∙◌, inl, inr, arith}
 use Rattle.std.specs.Prelude.{All}
 use Rattle.std.specs.List.{flat_map, list_any, AllByRecursion}
 use Rattle.std.specs.Cmp.Lexicographic.{pointwise}
@@ -61,7 +61,7 @@ use Rattle.written_values.specs.plan_changes.Going.{StandsAs}
 use Rattle.written_values.proofs.plan_changes.Going.{files_going}
 use Rattle.made_files.specs.new_files.Laws.{NewFileReads}
 use Rattle.written_values.specs.step_model.Placing.{Growth}
-use Rattle.written_values.specs.step_model.Streams.{blocks_key, used_key}
+use Rattle.written_values.specs.step_model.Streams.{blocks_key, used_key, bits_key}
 use Rattle.written_values.specs.step_model.Used.{is_in_record}
 use Rattle.written_values.specs.step_model.Contents.{same_key, is_touched, touched_streams, HasGrown, MayDiffer, IsLeft}
 use Rattle.made_files.proofs.step_model.Leaving.{contents_left}
@@ -71,7 +71,7 @@ use Rattle.made_files.specs.file_makes.declared.newfile.NewFile.{NewFile}
 use Rattle.made_files.specs.file_makes.Making.{made_record}
 use Rattle.made_files.specs.Made.{rooted_directory, IsMadeEdit}
 use Rattle.made_trees.specs.Created.{timed_directory, timed_volume, made_volume}
-use Rattle.made_trees.specs.Grown.{IsOfIndex}
+use Rattle.made_trees.specs.Grown.{IsOfGrowth}
 use Rattle.made_trees.specs.Behind.{MakesFileBehind, MadeBehindAreLeft}
 use Rattle.made_trees.proofs.Going.{first_sized, middle_sized, first_stands, anew, edit, stands, made, reaches}
 
@@ -220,7 +220,7 @@ module _ (times_set : TimesAreSet) (reads : NewFileReads) (c : Content) (g : Geo
   apart : n ≢ dir
   apart same = clash (file_in x n) none_x (ap (file_in x) same ∙ dir_x)
 
-  none_u : file_in u n ≡ None
+  pub none_u : file_in u n ≡ None
   none_u = sym (elsewhere u dir n q apart) ∙ none_x
 
   distinct : AreEdits (count_of x) edits
@@ -229,7 +229,7 @@ module _ (times_set : TimesAreSet) (reads : NewFileReads) (c : Content) (g : Geo
   base_z : is_base_record z ≡ true
   base_z = small_base is_info_or_root q z two.makes.values (own_record middle g clusters x dir q state_x dir_x two.makes.lists_none).base
 
-  file_w : file_in w n ≡ Some f
+  pub file_w : file_in w n ≡ Some f
   unfolding file_at
   file_w = as_file (table_in w.files n) f (edited_files x.files edits distinct).0 two.makes.base
 
@@ -246,7 +246,7 @@ module _ (times_set : TimesAreSet) (reads : NewFileReads) (c : Content) (g : Geo
   in_u : (o : StreamKey) → o.file ≡ dir → file_stream o.kind o.name (Some now) ≡ stream_at u o
   in_u o is = sym (ap (λ (i : ℕ). file_stream o.kind o.name (file_in u i)) is ∙ ap (file_stream o.kind o.name) k.before.own.file)
 
-  x_runs : (o : StreamKey) → runs_in (stream_at x o) ≡ runs_in (stream_at u o)
+  pub x_runs : (o : StreamKey) → runs_in (stream_at x o) ≡ runs_in (stream_at u o)
   x_runs o = elim (cases_eq o.file dir) [
     | inl is ↦
         ap (λ (i : ℕ). runs_in (file_stream o.kind o.name (file_in x i))) is
@@ -257,7 +257,7 @@ module _ (times_set : TimesAreSet) (reads : NewFileReads) (c : Content) (g : Geo
     | inr other ↦ ap (λ (y : Option Record). runs_in (file_stream o.kind o.name y)) (elsewhere u dir o.file q other)
   ]
 
-  w_runs : (o : StreamKey) → runs_in (stream_at w o) ≡ runs_in (stream_at u o)
+  pub w_runs : (o : StreamKey) → runs_in (stream_at w o) ≡ runs_in (stream_at u o)
   w_runs o = elim (cases_eq o.file n) [
     | inl is ↦
         ap (λ (i : ℕ). runs_in (file_stream o.kind o.name (file_in w i))) is
@@ -289,11 +289,23 @@ module _ (times_set : TimesAreSet) (reads : NewFileReads) (c : Content) (g : Geo
   index_stream_is o (inl is) = ap (stream_at w) is ∙ dir_stream index_allocation names_index refl refl ∙ sym (ap (stream_at u) is)
   index_stream_is o (inr is) = ap (stream_at w) is ∙ dir_stream bitmap_type names_index refl refl ∙ sym (ap (stream_at u) is)
 
-  all_grown : (l : List Growth) → AllByRecursion (IsOfIndex dir) l → AllByRecursion (λ h. HasGrown v u h) l → AllByRecursion (λ h. HasGrown v w h) l
+  -- so are those of the file table, whose file is neither the new one nor the directory
+  table_stays : file_in w table_file ≡ file_in u table_file
+  table_stays = (let user = two.makes.user in others_w table_file (λ same. omega (arith, same, user)) (λ same. two.makes.apart.table (sym same)))
+
+  table_stream_is : (o : StreamKey) → (o ≡ table_key) ⊎ (o ≡ bits_key) → stream_at w o ≡ stream_at u o
+  table_stream_is o (inl is) = ap (stream_at w) is ∙ ap (file_stream data_type []) table_stays ∙ sym (ap (stream_at u) is)
+  table_stream_is o (inr is) = ap (stream_at w) is ∙ ap (file_stream bitmap_type []) table_stays ∙ sym (ap (stream_at u) is)
+
+  grown_stream_is : (h : Growth) → IsOfGrowth dir h → stream_at w h.stream ≡ stream_at u h.stream
+  grown_stream_is h (inl its) = index_stream_is h.stream its
+  grown_stream_is h (inr its) = table_stream_is h.stream its
+
+  all_grown : (l : List Growth) → AllByRecursion (IsOfGrowth dir) l → AllByRecursion (λ h. HasGrown v u h) l → AllByRecursion (λ h. HasGrown v w h) l
   all_grown [] streams all = tt
   all_grown (h ∷ l) streams all = (
     record {
-      stands = ap is_in_record (index_stream_is h.stream streams.0) ∙ all.0.stands;
+      stands = ap is_in_record (grown_stream_is h streams.0) ∙ all.0.stands;
       old = all.0.old;
       runs = w_runs h.stream ∙ all.0.runs;
     },

@@ -39,7 +39,7 @@ use Rattle.node_spreads.proofs.Fitting.{Known, one_fits, all_fit}
 
 -- ---- the way
 
-way_sized : (c : Content) (q : Place) (p : Path) (t : Tree) → Stands (nodes_of (node_of_block c q)) t → EachSpotSized (way p t)
+pub way_sized : (c : Content) (q : Place) (p : Path) (t : Tree) → Stands (nodes_of (node_of_block c q)) t → EachSpotSized (way p t)
 way_sized c q Here t st = All-nil (λ (s : Spot). Sized s.node)
 way_sized c q (Below p) Leaf st = All-nil (λ (s : Spot). Sized s.node)
 way_sized c q (Below p) (Down v t) st = All-cons (λ (s : Spot). Sized s.node) (spot v t p) (way p t) (block_sized c q v (raws_of t) (some_read (node_of_block c q v) (raws_of t) st.0)) (way_sized c q p t st.1)
@@ -50,7 +50,7 @@ way_sized c q (Behind p) (Down v t) st = All-nil (λ (s : Spot). Sized s.node)
 way_sized c q (Behind p) (Entry key rest) st = way_sized c q p rest st
 way_sized c q (Behind p) (DownEntry v t key rest) st = way_sized c q p rest st.2
 
-way_short : (p : Path) (t : Tree) → length (way p t) + 1 ≤ levels t
+pub way_short : (p : Path) (t : Tree) → length (way p t) + 1 ≤ levels t
 way_short Here t = let s = some_levels t in omega arith
 way_short (Below p) Leaf = omega arith
 way_short (Below p) (Down v t) = let w = way_short p t in omega arith

@@ -1,6 +1,7 @@
 //! The laws of these definitions.
 ghost use Rattle.node_spreads.specs.Nodes.{NodesAreSpread, BlocksAreCounted, SpreadsWiden};
 ghost use Rattle.node_spreads.specs.Rises.{LevelsAreNeeded};
+ghost use Rattle.node_spreads.specs.Raised.{RootsStay, LevelsLift, PlansFit, RootsGrow};
 
 /// Law: by a plan of its nodes an index is spread as an operation may leave it, by as many blocks
 /// more as the plan takes.
@@ -22,4 +23,25 @@ pub fn spreads_widen()
 /// the way of the entry has few free bytes, and the record is crowded.
 pub fn levels_are_needed()
     ensures { LevelsAreNeeded }
+{}
+
+/// Law: in an index whose root has one child with free bytes, a plan that puts a key in leaves the
+/// root.
+pub fn roots_stay()
+    ensures { RootsStay }
+{}
+
+/// Law: an index that got a level before a key came is spread as one that gets a level with it.
+pub fn levels_lift()
+    ensures { LevelsLift }
+{}
+
+/// Law: each node that a plan writes has room in its block.
+pub fn plans_fit()
+    ensures { PlansFit }
+{}
+
+/// Law: the root of a plan that needs no level stays, or has one entry more.
+pub fn roots_grow()
+    ensures { RootsGrow }
 {}

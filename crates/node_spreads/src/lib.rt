@@ -7,4 +7,7 @@
 
 mod laws;
 
-pub use laws::{blocks_are_counted, levels_are_needed, nodes_are_spread, spreads_widen};
+pub use laws::{
+    blocks_are_counted, levels_are_needed, levels_lift, nodes_are_spread, plans_fit, roots_grow,
+    roots_stay, spreads_widen,
+};

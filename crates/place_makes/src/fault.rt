@@ -1,5 +1,6 @@
 use block_view::ViewFault;
 use host_base::Memory;
+use index_grows::IndexFault;
 use std::alloc::AllocError;
 use thiserror::Error;
 
@@ -9,10 +10,15 @@ pub enum PlaceFault {
     /// The view failed.
     #[error("the view failed")]
     Fault,
+    /// The directory's record would use so many bytes, which are above 1,024, with the blocks that
+    /// its index would get.
+    #[error("{used} bytes would be used")]
+    Full { used: u64 },
     /// Want of memory.
     #[error("no memory")]
     Memory,
-    /// Something of the directory would have to grow first, or what was read is part of no state.
+    /// Something of the directory would have to grow first in another way, or what was read is part
+    /// of no state.
     #[error("the directory would have to grow")]
     Unplanned,
 }
@@ -50,5 +56,21 @@ impl From<Memory> for PlaceFault {
 
     fn from(_error: Memory) -> Self {
         PlaceFault::Memory
+    }
+}
+
+impl From<IndexFault> for PlaceFault {
+    ghost use Rattle.std.specs.Prelude.{◌≡◌};
+    ghost use Rattle.place_makes.specs.Faults.{of_index};
+
+    ghost from_gives = { λ e fault. fault ≡ of_index e };
+
+    fn from(error: IndexFault) -> Self {
+        match error {
+            IndexFault::Fault => PlaceFault::Fault,
+            IndexFault::Full { used } => PlaceFault::Full { used },
+            IndexFault::Memory => PlaceFault::Memory,
+            IndexFault::Unplanned => PlaceFault::Unplanned,
+        }
     }
 }

@@ -1,5 +1,5 @@
 //! The nodes of a directory's index with the name of a new file.
-ghost use Rattle.std.specs.Prelude.{◌≡◌, ◌<◌, ◌≤◌, ◌^◌, true, IfOk, IfSome, Ok, length};
+ghost use Rattle.std.specs.Prelude.{◌≡◌, ◌<◌, ◌≤◌, ◌^◌, true, IfErr, IfOk, IfSome, Ok, length};
 ghost use Rattle.block_view.specs.Views.{AsksView};
 ghost use Rattle.utf16_name.specs.Lawful.{IsName};
 ghost use Rattle.record_model.specs.Values.{is_file_name};
@@ -9,7 +9,7 @@ ghost use Rattle.index_change.specs.NodePlans.{PlansNodes, TakesFront};
 ghost use Rattle.plan_draft.specs.Drafts.{drafted};
 ghost use Rattle.new_files.specs.NewFiles.{new_key};
 ghost use Rattle.made_trees.specs.made_files.Made.{made_key};
-ghost use Rattle.place_makes.specs.Faults.{place_cause};
+ghost use Rattle.place_makes.specs.Faults.{place_cause, OnFull};
 
 use crate::fault::PlaceFault;
 use block_view::{View, ViewFault};
@@ -78,6 +78,7 @@ pub fn planned<V: View>(
     requires enough { 17 ≤ length fresh.now }
     ensures planned { IfSome (V.content draft.old.view.now) (λ c. IfOk result (λ nodes. PlansNodes (drafted draft.old.touched.items c) (place_of dir.now) up.now dir.now.root dir.now.used (made_key made.now) fresh.now (Ok nodes))) }
     ensures front { IfOk result (TakesFront fresh.now) }
+    ensures full { IfErr result (OnFull (λ used. ⊥)) }
     ensures touched { draft.new.touched.items ≡ draft.old.touched.items }
     ensures asks { AsksView V.content V.kept V.faults place_cause draft.old.view.now draft.new.view.now result }
     ensures reference { draft.new.view.ghost_name ≡ draft.old.view.ghost_name }

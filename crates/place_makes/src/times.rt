@@ -1,5 +1,5 @@
 //! A directory's times, put into a draft.
-ghost use Rattle.std.specs.Prelude.{◌≡◌, ◌<◌, ◌^◌, IfOk, IfSome, OnOk};
+ghost use Rattle.std.specs.Prelude.{◌≡◌, ◌<◌, ◌^◌, IfErr, IfOk, IfSome, OnOk};
 ghost use Rattle.block_view.specs.Views.{AsksView};
 ghost use Rattle.record_streams.specs.Fitting.{FitsButRoom};
 ghost use Rattle.record_writer.specs.NormalLaws.{FitsByRoom};
@@ -7,7 +7,7 @@ ghost use Rattle.draft_records.specs.Records.{written_record};
 ghost use Rattle.made_trees.specs.file_puts.Puts.{PutsFileRecord, PutsTimes};
 ghost use Rattle.made_trees.specs.file_makes.Making.{HasRoom};
 ghost use Rattle.made_trees.specs.Created.{timed_directory};
-ghost use Rattle.place_makes.specs.Faults.{place_cause};
+ghost use Rattle.place_makes.specs.Faults.{place_cause, OnFull};
 
 use crate::fault::PlaceFault;
 use block_view::View;
@@ -43,6 +43,7 @@ fn put_timed<V: View>(
     requires number { number < 2 ^ 48 }
     requires fits { FitsByRoom timed.now }
     ensures put { OnOk result (IfSome (V.content draft.old.view.now) (λ c. PutsFileRecord c streams.now number timed.now draft.old.touched.items draft.new.touched.items)) }
+    ensures full { IfErr result (OnFull (λ used. ⊥)) }
     ensures asks { AsksView V.content V.kept V.faults place_cause draft.old.view.now draft.new.view.now result }
     ensures reference { draft.new.view.ghost_name ≡ draft.old.view.ghost_name }
 {
@@ -71,6 +72,7 @@ pub fn put_times<V: View>(
     ensures put { IfOk result (λ _. IfSome (V.content draft.old.view.now) (λ c. PutsTimes c streams.now number stamp file.now draft.old.touched.items draft.new.touched.items)) }
     ensures written { IfOk result (λ q. q ≡ timed_directory stamp file.now) }
     ensures room { IfOk result HasRoom }
+    ensures full { IfErr result (OnFull (λ used. ⊥)) }
     ensures asks { AsksView V.content V.kept V.faults place_cause draft.old.view.now draft.new.view.now result }
     ensures reference { draft.new.view.ghost_name ≡ draft.old.view.ghost_name }
 {

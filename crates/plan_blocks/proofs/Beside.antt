@@ -57,7 +57,7 @@ other_type t one two a is = elim (its_type a is) [
   | inr same ↦ ne_eqb a.head.kind t (λ e. two (sym e ∙ same))
 ]
 
-no_root : Misses is_names_root
+pub no_root : Misses is_names_root
 unfolding is_names_root
 no_root a is = none_of (eqb a.head.kind index_root) _ (other_type index_root (λ e. omega (arith, e)) (λ e. omega (arith, e)) a is)
   where
@@ -82,7 +82,7 @@ other_stream kind name beside a is = elim (which_blocks a is) [
 
 -- ---- what is read without them
 
-filter_bare : (q : Attr → Bool) → Misses q → (attrs : List Attr) → filter q (beside_blocks attrs) ≡ filter q attrs
+pub filter_bare : (q : Attr → Bool) → Misses q → (attrs : List Attr) → filter q (beside_blocks attrs) ≡ filter q attrs
 filter_bare q misses [] = refl
 filter_bare q misses (a ∷ attrs) = elim (cases_Bool (is_of_blocks a)) [
   | inl is ↦ rw (is, misses a is) (filter_bare q misses attrs)

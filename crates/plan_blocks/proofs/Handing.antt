@@ -37,6 +37,7 @@ use Rattle.plan_edits.specs.plan_model.Drafts.{IsPut}
 use Rattle.plan_edits.specs.plan_model.Edits.{IsOwnedIn}
 use Rattle.plan_edits.specs.plan_model.Made.{ReadsAs}
 use Rattle.plan_edits.proofs.plan_model.Drafting.{per_is}
+use Rattle.plan_edits.proofs.plan_model.Rewriting.{itself}
 use Rattle.plan_draft.specs.declared.touched.Touched.{Touched}
 use Rattle.plan_draft.specs.Touching.{bodies_of}
 use Rattle.plan_draft.specs.Drafts.{drafted}
@@ -54,6 +55,8 @@ use Rattle.plan_edits.proofs.Putting.{each_turned, found_in, joined_same, conten
 use Rattle.plan_edits.proofs.Editing.{only_came}
 use Rattle.plan_blocks.specs.Blocks.{blocks_before, blocks_behind, IsFreshBlock, GrowsIndex}
 use Rattle.plan_blocks.specs.Drafted.{MakesIndex, IsBegunBlock, IndexIsEdit}
+use Rattle.plan_blocks.specs.Levels.{is_index_root, PutsRooted}
+use Rattle.plan_blocks.specs.Rooted.{MakesRooted, RootedIsEdit}
 use Rattle.plan_blocks.proofs.Making.{has_blocks}
 
 -- ---- kinds of blocks
@@ -90,8 +93,8 @@ runs_are None = refl
 runs_are (Some (Held value)) = refl
 runs_are (Some (Placed e)) = refl
 
-module _ (c : Content) (g : Geometry) (clusters : ℕ) (v : Volume) (n : ℕ) (r : Record) (more : List Run) (real initialised : ℕ) (z : Resized) (old mid new : List Touched) (sized : HasSizes c) (eight : g.per_cluster ≡ 8) (old_kept : IsKept old) (new_kept : IsKept new)
-    (sized_before : HasSizes (drafted old c)) (state : Stands (drafted old c) g clusters v) (k : MakesIndex (drafted old c) v n r more real initialised z) (edit : IsEdit c v n z old mid) (blocks : PutsBlocks (IsFreshBlock v r (blocks_behind v.per r more real initialised)) (IsBegunBlock v r (blocks_behind v.per r more real initialised)) mid new) where
+module _ (c : Content) (g : Geometry) (clusters : ℕ) (v : Volume) (n : ℕ) (r : Record) (more : List Run) (real initialised : ℕ) (q : Record) (z : Resized) (old mid new : List Touched) (sized : HasSizes c) (eight : g.per_cluster ≡ 8) (old_kept : IsKept old) (new_kept : IsKept new)
+    (sized_before : HasSizes (drafted old c)) (state : Stands (drafted old c) g clusters v) (k : MakesRooted (drafted old c) v n r more real initialised q z) (edit : IsEdit c v n z old mid) (blocks : PutsBlocks (IsFreshBlock v r (blocks_behind v.per r more real initialised)) (IsBegunBlock v r (blocks_behind v.per r more real initialised)) mid new) where
   abbrev d : Content
   d = drafted old c
 
@@ -202,9 +205,9 @@ module _ (c : Content) (g : Geometry) (clusters : ℕ) (v : Volume) (n : ℕ) (r
   as_file b (inl owned) = inl owned
   as_file b (inr its) = inr (inl its)
 
-  each_block : AllByRecursion (λ q. goes_to q.block) bodies
+  each_block : AllByRecursion (λ x. goes_to x.block) bodies
   each_block =
-      all_in_both (λ q. goes_to q.block) edit.bodies blocks.bodies
+      all_in_both (λ x. goes_to x.block) edit.bodies blocks.bodies
       (each_turned (λ b. IsOwnedIn marks_streams v b ⊎ (block_at v.per v.table.runs FileRec n ≡ Some b)) goes_to edit.bodies as_file edit.puts.each)
       (each_turned (IsFreshBlock v r f) goes_to blocks.bodies (λ b fresh. inr (inr fresh)) blocks.each)
 
@@ -228,8 +231,8 @@ module _ (c : Content) (g : Geometry) (clusters : ℕ) (v : Volume) (n : ℕ) (r
       ∙ edit.marked x low
       ∙ only_came z more x (bit (cluster_bits d v) x) k.came k.none
 
-  pub index_is : (all : List NewBody) × (EditsDraft c old new all × GrowsIndex d v n r more real initialised s all)
-  index_is = (
+  pub rooted_is : (all : List NewBody) × (EditsDraft c old new all × PutsRooted d v n r more real initialised (written_record q) s all)
+  rooted_is = (
     bodies,
     (
       record { same = same; content = content },
@@ -243,7 +246,8 @@ module _ (c : Content) (g : Geometry) (clusters : ℕ) (v : Volume) (n : ℕ) (r
         room = k.room;
         sizes = k.sizes;
         begun = k.begun;
-        written = has_blocks r z.file s f k.made k.no_place k.in_use.pairs (written_read.written z.file);
+        written = has_blocks r q (written_record q) f k.made k.no_place k.in_use.pairs (written_read.written q);
+        values = k.values;
         whole = whole;
         anew = anew;
         each = each_block;
@@ -254,5 +258,53 @@ module _ (c : Content) (g : Geometry) (clusters : ℕ) (v : Volume) (n : ℕ) (r
     ),
   )
 
+pub rooted_edit : RootedIsEdit
+rooted_edit c g clusters v n r more real initialised p z old mid new sized eight old_kept new_kept state k edit blocks = rooted_is c g clusters v n r more real initialised p z old mid new sized eight old_kept new_kept (sized_with c (bodies_of old) sized) state k edit blocks
+
+-- ---- with the root from before
+
+as_rooted : (c : Content) (v : Volume) (n : ℕ) (r : Record) (more : List Run) (real initialised : ℕ) (z : Resized) → MakesIndex c v n r more real initialised z → MakesRooted c v n r more real initialised z.file z
+as_rooted c v n r more real initialised z k = record {
+  file = k.file;
+  apart = k.apart;
+  no_list = k.no_list;
+  directory = k.directory;
+  spelled = k.spelled;
+  taken = k.taken;
+  room = k.room;
+  sizes = k.sizes;
+  begun = k.begun;
+  no_place = k.no_place;
+  made = k.made;
+  in_use = k.in_use;
+  values = itself is_index_root (written_record z.file);
+  came = k.came;
+  none = k.none;
+  ends = k.ends;
+}
+
+-- an edit that puts the record with the blocks itself leaves the root
+pub as_index : (c : Content) (v : Volume) (n : ℕ) (r : Record) (more : List Run) (real initialised : ℕ) (s : Record) (all : List NewBody) → PutsRooted c v n r more real initialised s s all → GrowsIndex c v n r more real initialised s all
+as_index c v n r more real initialised s all k = record {
+  file = k.file;
+  apart = k.apart;
+  no_list = k.no_list;
+  directory = k.directory;
+  spelled = k.spelled;
+  taken = k.taken;
+  room = k.room;
+  sizes = k.sizes;
+  begun = k.begun;
+  written = k.written;
+  whole = k.whole;
+  anew = k.anew;
+  each = k.each;
+  void = k.void;
+  covers = k.covers;
+  marked = k.marked;
+}
+
 pub index_edit : IndexIsEdit
-index_edit c g clusters v n r more real initialised z old mid new sized eight old_kept new_kept state k edit blocks = index_is c g clusters v n r more real initialised z old mid new sized eight old_kept new_kept (sized_with c (bodies_of old) sized) state k edit blocks
+index_edit c g clusters v n r more real initialised z old mid new sized eight old_kept new_kept state k edit blocks =
+    let is = rooted_edit c g clusters v n r more real initialised z.file z old mid new sized eight old_kept new_kept state (as_rooted (drafted old c) v n r more real initialised z k) edit blocks in
+    (is.0, (is.1.0, as_index (drafted old c) v n r more real initialised (written_record z.file) is.0 is.1.1))

@@ -4,6 +4,10 @@ pub use Rattle.plan_edits.proofs.plan_model
 pub mod Beside
 pub mod Placing
 pub mod Behind
+pub mod Rooted
+pub mod Raising
 pub mod Enlarging
+pub mod Levels
 pub mod Making
+pub mod Roots
 pub mod Handing

@@ -206,7 +206,7 @@ module _ (c d : Content) (g f : ℕ → Block) (n m step : ℕ) (less : n ≤ m)
   unfolding node_of_block node_block
   keeps_nodes count v entries here is = by_test (ltb 0 step && eqb (v % step) 0) v (cond (eqb step 0) 0 (v / step)) entries is
 
-no_body : (v : ℕ) (b : BodyOf) → is_index_body b ≡ false → (entries : List Entry) → node_of_body v b ≡ Ok entries → ⊥
+pub no_body : (v : ℕ) (b : BodyOf) → is_index_body b ≡ false → (entries : List Entry) → node_of_body v b ≡ Ok entries → ⊥
 unfolding node_of_body
 no_body v b none entries is = (let never = rw none at is in absurd cc)
 

@@ -7,4 +7,7 @@
 
 mod laws;
 
-pub use laws::{blocks_are_written, index_grown, index_is_edit};
+pub use laws::{
+    blocks_are_written, index_grown, index_is_edit, index_raised, level_came, rooted_is_edit,
+    roots_are_written,
+};

@@ -61,6 +61,7 @@ use Rattle.stream_laws.proofs.Replacing.{clusters_replaced}
 use Rattle.stream_laws.proofs.Rewriting.{volume_parts, count_is, goes_on_whole, blank_free, blank_unsigned, none_behind}
 use Rattle.stream_laws.proofs.Sharing.{same_key}
 use Rattle.stream_laws.proofs.Tabling.{inside_list, no_list_stream, read_in_use, table_by_record}
+use Rattle.plan_growth.specs.tree_laws.Contents.{SameIndexAt, SameUpper}
 use Rattle.plan_growth.specs.tree_laws.Changed.{TouchesFiles, AgreesElsewhere, KeepsTouched}
 use Rattle.plan_growth.specs.tree_laws.Growth.{GrowsTable, new_numbers}
 use Rattle.plan_growth.specs.tree_laws.Keeping.{KeepsNames, KeepsDirectory}
@@ -539,7 +540,7 @@ module _ (c : Content) (g : Geometry) (clusters : ℕ) (v : Volume) (r : Record)
   as_write : (p : NewBody) → IsOfTable v more new p.block → IsInStream table_streams v (whole_write p) ⊎ IsInRecord records v (whole_write p) ⊎ LiesFree v (whole_write p).block
   as_write p (inl owned) = inl (record { stream = owned.stream; chosen = marks_in owned.stream owned.chosen; kind = stream_kind owned.stream; number = owned.number; lies = owned.lies })
   as_write p (inr (inl its)) = inr (inl (record { number = table_file; chosen = or_left (eqb table_file table_file) (leb (record_count v.table) table_file) refl; lies = its }))
-  as_write p (inr (inr (inl fresh))) = elim (old_or_free c g clusters v more eight state k.taken v.table.runs FileRec fresh.0 p.block k.spelled room_more fresh.2) [
+  as_write p (inr (inr (inl fresh))) = elim (old_or_free c g clusters v more eight state k.taken v.table.runs FileRec fresh.0 p.block k.spelled room_more fresh.3) [
     | inl there ↦ inr (inl (record { number = fresh.0; chosen = or_right (eqb fresh.0 table_file) (leb (record_count v.table) fresh.0) (le-leb (record_count v.table) fresh.0 fresh.1); lies = there }))
     | inr free ↦ inr (inr free)
   ]
@@ -557,7 +558,7 @@ module _ (c : Content) (g : Geometry) (clusters : ℕ) (v : Volume) (r : Record)
       let its : stream_kind owned.stream ≡ p.block.kind = (lies v.per (runs_in (stream_at v owned.stream)) (stream_kind owned.stream) owned.number p.block owned.lies).kind_is in
       no_allocation owned.stream owned.chosen (its ∙ sym same)
   not_index p (inr (inl its)) same = let kind_is : FileRec ≡ p.block.kind = (lies v.per v.table.runs FileRec table_file p.block its).kind_is in absurd cc
-  not_index p (inr (inr (inl fresh))) same = let kind_is : FileRec ≡ p.block.kind = (lies v.per f.runs FileRec fresh.0 p.block fresh.2).kind_is in absurd cc
+  not_index p (inr (inr (inl fresh))) same = let kind_is : FileRec ≡ p.block.kind = (lies v.per f.runs FileRec fresh.0 p.block fresh.3).kind_is in absurd cc
   not_index p (inr (inr (inr sector))) same = let kind_is : Plain ≡ p.block.kind = (lies v.per (runs_in (Some new)) Plain sector.0 p.block sector.1).kind_is in absurd cc
 
   no_void : (others : List NewBody) → AllByRecursion (λ p. IsOfTable v more new p.block) others → AllByRecursion (λ (x : Write). same_block void_block x.block ≡ false) (writes_in others)
@@ -934,6 +935,16 @@ module _ (c : Content) (g : Geometry) (clusters : ℕ) (v : Volume) (r : Record)
   other_files : (m : ℕ) → m ≢ table_file → file_in (longer_volume v more s) m ≡ file_in v m
   other_files m other = file_same m ∙ file_elsewhere (table_in v.files) (table_in files) table_file m differs.others other
 
+  names_of : (m : ℕ) → links_at (files_by_number (longer_volume v more s)) m ≡ links_at (files_by_number v) m
+  unfolding links_at
+  names_of m = ap (file_links m) (file_same m) ∙ all_named m
+
+  upper_bytes : SameUpper c d v
+  upper_bytes = planned_upper touched table_streams records c g clusters v writes within spares
+
+  index_bytes : (m : ℕ) → SameIndexAt c d v m
+  index_bytes m = same_index_at (λ n. false) table_streams records c g clusters v writes within all_spared m refl
+
   table_stream : stream_at (longer_volume v more s) table_key ≡ Some (Placed f)
   table_stream = ap (file_stream data_type []) file_0 ∙ now.records
 
@@ -1016,7 +1027,7 @@ module _ (c : Content) (g : Geometry) (clusters : ℕ) (v : Volume) (r : Record)
   unfolding stream_kind
   owned_after p (inl owned) = inl (record { stream = owned.stream; number = owned.number; lies = owned.lies })
   owned_after p (inr (inl its)) = inl (record_owned c g clusters v table_file p.block state its)
-  owned_after p (inr (inr (inl fresh))) = inr (record { stream = table_key; number = fresh.0; lies = ap (λ (o : Option Stream). block_at v.per (runs_in o) FileRec fresh.0) table_stream ∙ fresh.2 })
+  owned_after p (inr (inr (inl fresh))) = inr (record { stream = table_key; number = fresh.0; lies = ap (λ (o : Option Stream). block_at v.per (runs_in o) FileRec fresh.0) table_stream ∙ fresh.3 })
   owned_after p (inr (inr (inr sector))) = inr (record { stream = numbers_key; number = sector.0; lies = ap (λ (o : Option Stream). block_at v.per (runs_in o) Plain sector.0) numbers_stream ∙ sector.1 })
 
   clusters_are : clusters ≡ v.clusters
@@ -1204,6 +1215,11 @@ table_grows = record {
   table = table_stream;
   bitmap = numbers_stream;
   others = λ c g clusters v r more old bits_more new s bodies n sized eight state k other. other_files c g clusters v r more old bits_more new s bodies sized eight state k n other;
+  streams = λ c g clusters v r more old bits_more new s bodies t sized eight state k. which c g clusters v r more old bits_more new s bodies sized eight state k t;
+  places = λ c g clusters v r more old bits_more new s bodies m sized eight state k low. places c g clusters v r more old bits_more new s bodies sized eight state k m low;
+  names = λ c g clusters v r more old bits_more new s bodies m sized eight state k. names_of c g clusters v r more old bits_more new s bodies sized eight state k m;
+  upper = upper_bytes;
+  indexes = λ c g clusters v r more old bits_more new s bodies m sized eight state k. index_bytes c g clusters v r more old bits_more new s bodies sized eight state k m;
   tree = tree;
   goes_on = λ first start c g clusters v r more old bits_more new s bodies gave sized eight state k may bits_may. table_goes_on c g clusters v r more old bits_more new s bodies sized eight state k first start gave may bits_may;
 }

@@ -18,15 +18,17 @@ use Rattle.state_model.specs.declared.geometry.Geometry.{Geometry}
 use Rattle.state_model.specs.declared.stream.Extents.{Extents}
 use Rattle.state_model.specs.declared.stream.Stream.{Stream}
 use Rattle.state_model.specs.declared.stream.Stream.TheVariants.{Held, Placed}
+use Rattle.state_model.specs.Files.{links_at}
 use Rattle.state_model.specs.Loads.{most_records, record_count, total_clusters}
 use Rattle.state_model.specs.Streams.{block_at, real_size, stream_bytes, stream_of}
-use Rattle.volume_model.specs.Volumes.{Volume, cluster_bits, file_in, record_bits, table_file}
+use Rattle.volume_model.specs.Volumes.{Volume, cluster_bits, file_in, files_by_number, record_bits, table_file}
 use Rattle.volume_model.specs.Owners.{uses}
 use Rattle.volume_state.specs.Trees.{tree_of}
 use Rattle.stream_laws.specs.Owners.{initialised_in}
 use Rattle.stream_laws.specs.Places.{AreApart}
 use Rattle.stream_laws.specs.Sharing.{runs_in, stream_at, StreamKey}
 use Rattle.stream_laws.specs.Tables.{table_key}
+use Rattle.plan_growth.specs.tree_laws.Contents.{SameIndexAt, SameUpper}
 use Rattle.plan_growth.specs.tree_laws.Growth.{new_number, new_numbers}
 use Rattle.plan_growth.specs.tree_laws.Steps.{stepped}
 use Rattle.stream_runs.specs.Runs.{grown}
@@ -96,7 +98,7 @@ longer_volume v more s = stepped v (longer_table v.per more v.table) (record { n
 
 -- the block of a record of the longer table that the old one hadn't, in clusters that came or behind the last old record
 abbrev pub IsNewRecord : Volume → List Run → Block → Type 0
-IsNewRecord v more b = (m : ℕ) × (record_count v.table ≤ m) × (block_at v.per (longer_table v.per more v.table).runs FileRec m ≡ Some b)
+IsNewRecord v more b = (m : ℕ) × (record_count v.table ≤ m) × (m < record_count v.table + new_records) × (block_at v.per (longer_table v.per more v.table).runs FileRec m ≡ Some b)
 
 -- a sector of the new bitmap
 abbrev pub IsNumbersSector : Volume → Stream → Block → Type 0
@@ -154,8 +156,9 @@ pub record HasLongerTable (came : ℕ) (t u : Tree) : Type 0 where
 abbrev pub gives_table : List Run → List Run → (ℕ → Option BlockKind) → ℕ → Option BlockKind
 gives_table more bits_more gave = gives_runs Plain bits_more (gives_runs FileRec more gave)
 
--- Then a state becomes one with the longer table, which is a stream of it beside the new bitmap. Its tree has the new numbers, and the nodes
--- from before, that of record 0 among them. It is an edit of a plan, where the clusters that come may be given as these kinds.
+-- Then a state becomes one with the longer table, which is a stream of it beside the new bitmap; the other files and streams stay, all names do, and
+-- the old records where they lie. No block of $UpCase or of a directory's index changes. Its tree has the new numbers, and the nodes from before, that of
+-- record 0 among them. It is an edit of a plan, where the clusters that come may be given as these kinds.
 pub record TableIsGrown : Type 0 where
   pub stands : (c : Content) (g : Geometry) (clusters : ℕ) (v : Volume) (r : Record) (more : List Run) (old : Stream) (bits_more : List Run) (new : Stream) (s : Record) (bodies : List NewBody) → HasSizes c → g.per_cluster ≡ 8 → Stands c g clusters v
       → GrowsVolumeTable c v r more old bits_more new s bodies → Stands (content_with c bodies) g clusters (longer_volume v more s)
@@ -167,6 +170,16 @@ pub record TableIsGrown : Type 0 where
       → GrowsVolumeTable c v r more old bits_more new s bodies → stream_at (longer_volume v more s) numbers_key ≡ Some new
   pub others : (c : Content) (g : Geometry) (clusters : ℕ) (v : Volume) (r : Record) (more : List Run) (old : Stream) (bits_more : List Run) (new : Stream) (s : Record) (bodies : List NewBody) (n : ℕ) → HasSizes c → g.per_cluster ≡ 8 → Stands c g clusters v
       → GrowsVolumeTable c v r more old bits_more new s bodies → n ≢ table_file → file_in (longer_volume v more s) n ≡ file_in v n
+  pub streams : (c : Content) (g : Geometry) (clusters : ℕ) (v : Volume) (r : Record) (more : List Run) (old : Stream) (bits_more : List Run) (new : Stream) (s : Record) (bodies : List NewBody) (t : StreamKey) → HasSizes c → g.per_cluster ≡ 8 → Stands c g clusters v
+      → GrowsVolumeTable c v r more old bits_more new s bodies → (t ≡ table_key) ⊎ (t ≡ numbers_key) ⊎ (stream_at (longer_volume v more s) t ≡ stream_at v t)
+  pub places : (c : Content) (g : Geometry) (clusters : ℕ) (v : Volume) (r : Record) (more : List Run) (old : Stream) (bits_more : List Run) (new : Stream) (s : Record) (bodies : List NewBody) (m : ℕ) → HasSizes c → g.per_cluster ≡ 8 → Stands c g clusters v
+      → GrowsVolumeTable c v r more old bits_more new s bodies → m < record_count v.table → block_at v.per (longer_table v.per more v.table).runs FileRec m ≡ block_at v.per v.table.runs FileRec m
+  pub names : (c : Content) (g : Geometry) (clusters : ℕ) (v : Volume) (r : Record) (more : List Run) (old : Stream) (bits_more : List Run) (new : Stream) (s : Record) (bodies : List NewBody) (m : ℕ) → HasSizes c → g.per_cluster ≡ 8 → Stands c g clusters v
+      → GrowsVolumeTable c v r more old bits_more new s bodies → links_at (files_by_number (longer_volume v more s)) m ≡ links_at (files_by_number v) m
+  pub upper : (c : Content) (g : Geometry) (clusters : ℕ) (v : Volume) (r : Record) (more : List Run) (old : Stream) (bits_more : List Run) (new : Stream) (s : Record) (bodies : List NewBody) → HasSizes c → g.per_cluster ≡ 8 → Stands c g clusters v
+      → GrowsVolumeTable c v r more old bits_more new s bodies → SameUpper c (content_with c bodies) v
+  pub indexes : (c : Content) (g : Geometry) (clusters : ℕ) (v : Volume) (r : Record) (more : List Run) (old : Stream) (bits_more : List Run) (new : Stream) (s : Record) (bodies : List NewBody) (m : ℕ) → HasSizes c → g.per_cluster ≡ 8 → Stands c g clusters v
+      → GrowsVolumeTable c v r more old bits_more new s bodies → SameIndexAt c (content_with c bodies) v m
   pub tree : (c : Content) (g : Geometry) (clusters : ℕ) (v : Volume) (r : Record) (more : List Run) (old : Stream) (bits_more : List Run) (new : Stream) (s : Record) (bodies : List NewBody) → HasSizes c → g.per_cluster ≡ 8 → Stands c g clusters v
       → GrowsVolumeTable c v r more old bits_more new s bodies → HasLongerTable (new_clusters + total_clusters bits_more) (tree_of c v) (tree_of (content_with c bodies) (longer_volume v more s))
   pub goes_on : (first : Content) (start : Volume) (c : Content) (g : Geometry) (clusters : ℕ) (v : Volume) (r : Record) (more : List Run) (old : Stream) (bits_more : List Run) (new : Stream) (s : Record) (bodies : List NewBody) (gave : ℕ → Option BlockKind) → HasSizes c → g.per_cluster ≡ 8

@@ -1,12 +1,11 @@
 -- The changes of a plan that writes or cuts a file are some that a volume takes.
-use Rattle.std.specs.Prelude.{◌≡◌, ℕ, ◌*◌, ◌<◌, ◌≤◌, false, All, List, None}
+use Rattle.std.specs.Prelude.{◌≡◌, ℕ, ◌*◌, ◌≤◌, false, All, List, None}
 use Rattle.std.specs.List.{AllByRecursion}
 use Rattle.disk_model.specs.declared.block.Change.{Change}
 use Rattle.disk_model.specs.Content.{Content}
 use Rattle.disk_model.specs.Sectors.{overlap}
 use Rattle.record_model.specs.Records.{Record}
 use Rattle.file_tree.specs.declared.node.Node.{Node}
-use Rattle.file_tree.specs.Walks.{first_user_record}
 use Rattle.sector_device.specs.Moments.{Changes}
 use Rattle.block_view.specs.Changes.{content_after}
 use Rattle.log_reading.specs.Rings.{IsRingPlace}
@@ -27,7 +26,7 @@ use Rattle.writes_keep.specs.data_plan.Changes.{growth_of}
 use Rattle.writes_keep.specs.made_data.Made.{record_with_data}
 use Rattle.writes_keep.specs.file_puts.declared.streams.VolumeStreams.{VolumeStreams}
 use Rattle.writes_keep.specs.file_puts.Written.{AreStreamsOf, WritesBy, HasWritten}
-use Rattle.writes_keep.specs.Writes.{HasWholeSectors, IsOffLog}
+use Rattle.writes_keep.specs.Writes.{HasWholeSectors, IsOffLog, IsQuiet}
 use Rattle.spares_at_mount.specs.txn_model.Values.{StoreFacts}
 use Rattle.spares_at_mount.specs.txn_core.Views.{present_on}
 use Rattle.spares_at_mount.specs.Mounts.{LiesInLog}
@@ -45,8 +44,8 @@ pub record IsFilePlan (m : MapParts) (table : List ℕ) (c : Content) (s : Volum
   pub lists : HasOwnLists c m.volume
   pub whole : HasWholeSectors c m.volume
 
--- The changes lead on as a volume asks, and are apart. Behind them too no attribute list has a part in another record; the file table, its mirror and the bits of clusters have the extents of
--- which the draft was told; there is no change journal; and the streams of the volume's own files, the log's among them, keep their clusters. Each change lies off the clusters of the log, and off
+-- The changes lead on as a volume asks, and are apart. Behind them too no attribute list has a part in another record; the file table, its mirror and the bits of clusters have these extents; there
+-- is no change journal; and the streams of the volume's own files in which no operation writes, the log's among them, keep their clusters. Each change lies off the clusters of the log, and off
 -- record 2 where the boot sector says. A state that a mount takes leads to one that it takes too.
 pub record LeadsAsAsked (m : MapParts) (table : List ℕ) (c : Content) (s : VolumeStreams) (changes : List Change) : Type 0 where
   pub leads : LeadsOn m table changes c
@@ -54,7 +53,7 @@ pub record LeadsAsAsked (m : MapParts) (table : List ℕ) (c : Content) (s : Vol
   pub lists : HasOwnLists (content_after changes c) leads.volume
   pub streams : AreStreamsOf leads.volume s
   pub journal : (tree_of (content_after changes c) leads.volume).journal ≡ None
-  pub boot : (t : StreamKey) → t.file < first_user_record → runs_in (stream_at leads.volume t) ≡ runs_in (stream_at m.volume t)
+  pub boot : (t : StreamKey) → IsQuiet t.file → runs_in (stream_at leads.volume t) ≡ runs_in (stream_at m.volume t)
   pub log : runs_in (stream_at leads.volume log_key) ≡ runs_in (stream_at m.volume log_key)
   pub off : AllByRecursion (λ x. IsOffLog m.volume x.block) changes
   pub second : AllByRecursion (λ x. overlap x.block (boot_block (geometry_of m) 2) ≡ false) changes

@@ -18,3 +18,4 @@ pub use Rattle.writes_keep.specs.file_puts
 pub use Rattle.writes_keep.specs.names_stay
 pub use Rattle.writes_keep.specs.step_model
 pub mod Leading
+pub mod Welcoming

@@ -1,5 +1,6 @@
 //! The laws of these definitions.
 ghost use Rattle.plans_lead.specs.Leading.{PlansLeadOn};
+ghost use Rattle.plans_lead.specs.Welcoming.{KeptIsWelcome};
 
 use spares_at_mount::blocks_off_log;
 use writes_keep::{writes_keep, writes_keep_lists, writes_keep_names};
@@ -17,3 +18,9 @@ pub fn plans_lead_on()
     writes_keep_names();
     writes_keep_lists();
 }
+
+/// Law: where an operation keeps what a volume asks for, no file has more attribute lists and no name
+/// comes to lead to a change journal, a state that a mount takes leads to one that it takes too.
+pub fn kept_is_welcome()
+    ensures { KeptIsWelcome }
+{}

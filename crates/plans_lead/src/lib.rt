@@ -6,6 +6,6 @@
 
 mod laws;
 
-pub use laws::plans_lead_on;
+pub use laws::{kept_is_welcome, plans_lead_on};
 pub use spares_at_mount::{LiveMap, Store, StoreView, VolumeTree, needed_is_all, steps_lead_on};
 pub use writes_keep::{names_stay, steps_of_trees, steps_stay};

@@ -100,7 +100,7 @@ use Rattle.plan_edits.proofs.Bitmap.{shares_itself, state_bitmap}
 use Rattle.plan_edits.proofs.Editing.{bit_is}
 use Rattle.plan_edits.proofs.Putting.{content_goes, Goes}
 use Rattle.plan_edits.proofs.Reading.{written_read}
-use Rattle.table_edits.specs.Grown.{GrownIsEdit, GrowsOfVolume, NewSequences, numbers_runs, table_runs}
+use Rattle.table_edits.specs.Grown.{AreBegun, GrownIsEdit, GrownIsKept, GrowsOfVolume, LongerTable, NewSequences, NumbersAreBegun, numbers_runs, table_runs}
 use Rattle.table_edits.proofs.Again.{placed_again}
 use Rattle.table_edits.proofs.Chosen.{both_apart, numbers_count, numbers_size, numbers_taken, own_count, own_size, own_taken}
 use Rattle.table_edits.proofs.Numbers.{IsLongerNumbers, longer_numbers, MayBecome}
@@ -669,7 +669,7 @@ module _ (c : Content) (g : Geometry) (clusters : ℕ) (v : Volume) (bits : List
   of_table a (inl (inr other)) = inl (in_mirror a other.1)
   of_table a (inr (inl sector)) = inr (inr (inr (sector.0, ap (λ (l : List Run). block_at per l Plain sector.0) numbers.runs ∙ sector.1)))
   of_table a (inr (inr (inl mark))) = inl (in_marks a mark)
-  of_table a (inr (inr (inr fresh))) = inr (inr (inl (fresh.0, fresh.1.0, fresh.1.1.1)))
+  of_table a (inr (inr (inr fresh))) = inr (inr (inl (fresh.0, fresh.1.0, fresh.1.1.0, fresh.1.1.1)))
 
   -- ---- record 0
 
@@ -998,6 +998,12 @@ module _ (c : Content) (g : Geometry) (clusters : ℕ) (v : Volume) (bits : List
   result : (others : List NewBody) × (EditsDraft c old new others × GrowsVolumeTable d v t.bitmap.file more was bits_more is s others)
   result = (bodies, (record { same = all.blocks.same; content = content_is }, edit))
 
+  in_order : IsKept new
+  in_order = all.kept
+
+  begun : AreBegun (record_count v.table + 256) after.bitmap.stream
+  begun = numbers.begun
+
   -- ---- the new numbers
 
   unsigned : (o : Option Block) → ((a : Block) → o ≡ Some a → body_in (bodies_of new) a ≡ Some (zeros 1024)) → spare_sequence (block_bytes (drafted new c) o) ≡ 1
@@ -1021,3 +1027,12 @@ grown_edit c g clusters v bits bitmap mirror t b old new after marked eight stat
 
 pub new_sequences : NewSequences
 new_sequences c g clusters v bits bitmap mirror t b old new after marked n eight state k low high = sequence c g clusters v bits bitmap mirror t b old new after marked eight state k n low high
+
+pub grown_kept : GrownIsKept
+grown_kept c g clusters v bits bitmap mirror t b old new after marked eight state k = in_order c g clusters v bits bitmap mirror t b old new after marked eight state k
+
+pub numbers_begun : NumbersAreBegun
+numbers_begun c g clusters v bits bitmap mirror t b old new after marked eight state k = begun c g clusters v bits bitmap mirror t b old new after marked eight state k
+
+pub longer_lies : LongerTable
+longer_lies c v bits bitmap mirror t b old new after marked k = k.grows.lies ∙ k.grows.is_records.extents ∙ ap (λ (e : Extents). larger (lengthened v.per (table_runs bits t) e)) k.table

@@ -1,5 +1,6 @@
 -- The bitmap of numbers behind a table that grows, wherever it stands.
 use Rattle.std.proofs.Common.{◌≡◌, ◌⊎◌, ℕ, ◌+◌, ◌-◌, ◌*◌, ◌≤◌, max, Bool, true, false, cond, List, [], ◌∷◌, ◌++◌, length, Some, Ok, refl, sym, ap₂, subst, ◌∙◌, inl, inr, arith}
+use Rattle.std.proofs.lemmas.Bool.{leb-true}
 use Rattle.std.proofs.lemmas.List.{length-append}
 use Rattle.disk_model.specs.Bytes.{zeros}
 use Rattle.disk_model.specs.Content.{Content}
@@ -28,6 +29,7 @@ use Rattle.draft_growth.specs.draft_bitmaps.Bitmaps.{byte_end, is_below, raised,
 use Rattle.draft_growth.specs.draft_bitmaps.Effects.{room_in}
 use Rattle.draft_growth.proofs.draft_bitmaps.Room.{same_room}
 use Rattle.draft_growth.specs.Growing.{bytes_for, placed_in, roomier, with_room}
+use Rattle.table_edits.specs.Grown.{AreBegun}
 use Rattle.table_edits.proofs.Again.{placed_again, valued_again}
 
 -- What the bitmap has become in a record with this one, behind the longer one. The sizes are those of so many numbers.
@@ -38,6 +40,7 @@ pub record IsLongerNumbers (per count : ℕ) (more : List Run) (old : Stream) (q
   pub begins : initialised_in (Some longer.stream) ≡ initialised_in (Some old)
   pub file : after.file ≡ with_bitmap per after.stream q
   pub room : fits_room after.file ≡ Ok tt
+  pub begun : AreBegun count after.stream
 
 -- what has to be known of a bitmap in clusters
 pub record MayBeRoomier (per size : ℕ) (more : List Run) (e : Extents) : Type 0 where
@@ -78,6 +81,7 @@ module _ (c : Content) (per : ℕ) (table mirror : Extents) (count first size : 
           begins = refl;
           file = ap₂ (λ (k : ℕ) (r : Record). valued_record k [] bytes r) kind (held_file all) ∙ valued_again bitmap_type [] all bytes q a others some;
           room = same_room base.kind [] bytes all lb.file long ∙ room;
+          begun = tt;
         })
 
     abbrev wide : Extents → Extents
@@ -109,15 +113,16 @@ module _ (c : Content) (per : ℕ) (table mirror : Extents) (count first size : 
           room = subst (λ (n : ℕ). max e.real size ≤ n * (512 * per)) (sym total) most;
         }
 
-    same_longer : (e : Extents) → MayBeRoomier per size more e → fits_room (lb_of e).file ≡ Ok tt → IsLongerNumbers per count more (Placed e) q (lb_of e) (lb_of e)
+    same_longer : (e : Extents) → MayBeRoomier per size more e → is_below (wide e) first 256 ≡ true → fits_room (lb_of e).file ≡ Ok tt → IsLongerNumbers per count more (Placed e) q (lb_of e) (lb_of e)
     unfolding lb_of
-    same_longer e k room = record {
+    same_longer e k below room = record {
       becomes = takes e e.initialised k (omega arith) (let low = k.lawful in omega (arith, low));
       enough = omega (arith, large);
       runs = refl;
       begins = refl;
       file = placed_file e;
       room = room;
+      begun = (let end : byte_end first 256 ≤ e.initialised = leb-true (byte_end first 256) e.initialised below in omega (arith, end, ends));
     }
 
     raised_longer : (e : Extents) → MayBeRoomier per size more e → fits_room (with_extents per (raised first 256 (wide e)) (lb_of e)).file ≡ Ok tt → IsLongerNumbers per count more (Placed e) q (lb_of e) (with_extents per (raised first 256 (wide e)) (lb_of e))
@@ -131,12 +136,13 @@ module _ (c : Content) (per : ℕ) (table mirror : Extents) (count first size : 
           ap₂ (λ (x : ℕ) (r : Record). placed_record per x [] (raised first 256 (wide e)) r) kind (placed_file e)
           ∙ placed_again per bitmap_type [] (wide e) (raised first 256 (wide e)) q a others some;
       room = room;
+      begun = omega (arith, ends);
     }
 
-    by_below : (t : Bool) (e : Extents) (after : Bitmap) → MayBeRoomier per size more e → fits_room (lb_of e).file ≡ Ok tt → cond t (Ok tt) (fits_room (with_extents per (raised first 256 (wide e)) (lb_of e)).file) ≡ Ok tt
+    by_below : (t : Bool) (e : Extents) (after : Bitmap) → is_below (wide e) first 256 ≡ t → MayBeRoomier per size more e → fits_room (lb_of e).file ≡ Ok tt → cond t (Ok tt) (fits_room (with_extents per (raised first 256 (wide e)) (lb_of e)).file) ≡ Ok tt
         → PutsPlacedBy t c per table mirror (lb_of e) (wide e) first 256 false mid new after → IsLongerNumbers per count more (Placed e) q (lb_of e) after
-    by_below true e after k first_room room put = subst (IsLongerNumbers per count more (Placed e) q (lb_of e)) (sym put.1) (same_longer e k first_room)
-    by_below false e after k first_room room put = subst (IsLongerNumbers per count more (Placed e) q (lb_of e)) (sym put.1) (raised_longer e k room)
+    by_below true e after below k first_room room put = subst (IsLongerNumbers per count more (Placed e) q (lb_of e)) (sym put.1) (same_longer e k below first_room)
+    by_below false e after below k first_room room put = subst (IsLongerNumbers per count more (Placed e) q (lb_of e)) (sym put.1) (raised_longer e k room)
 
     pub longer_numbers : (s : Stream) (lb after : Bitmap) → lb ≡ with_room per size more s base → MayBecome per size more s → fits_room lb.file ≡ Ok tt → room_in lb.stream per lb first 256 ≡ Ok tt → PutsInto lb.stream c per table mirror lb first 256 false mid new after → IsLongerNumbers per count more s q lb after
     unfolding lb_of
@@ -148,4 +154,4 @@ module _ (c : Content) (per : ℕ) (table mirror : Extents) (count first size : 
     longer_numbers (Placed e) lb after is may first_room room put =
         let P : Bitmap → Type 0 = λ x. (fits_room x.file ≡ Ok tt) × (room_in x.stream per x first 256 ≡ Ok tt) × PutsInto x.stream c per table mirror x first 256 false mid new after in
         let at : P (lb_of e) = subst P is (first_room, room, put) in
-        subst (λ (x : Bitmap). IsLongerNumbers per count more (Placed e) q x after) (sym is) (by_below (is_below (wide e) first 256) e after may at.0 at.1 at.2)
+        subst (λ (x : Bitmap). IsLongerNumbers per count more (Placed e) q x after) (sym is) (by_below (is_below (wide e) first 256) e after refl may at.0 at.1 at.2)

@@ -1,5 +1,5 @@
 -- A file table that a draft has let grow is an edit of a plan.
-use Rattle.std.specs.Prelude.{◌≡◌, ◌+◌, ◌%◌, ◌<◌, ◌≤◌, ℕ, false, Bool, length, List, [], Ok, Some}
+use Rattle.std.specs.Prelude.{◌≡◌, ⊤, ◌+◌, ◌*◌, ◌%◌, ◌<◌, ◌≤◌, ℕ, false, Bool, length, List, [], Ok, Some}
 use Rattle.disk_model.specs.Content.{Content, HasSizes}
 use Rattle.record_model.specs.declared.runs.Run.{Run}
 use Rattle.record_model.specs.Constants.{bitmap_type}
@@ -7,7 +7,8 @@ use Rattle.bit_set.specs.Bits.{bit}
 use Rattle.space_model.specs.Choosing.{chosen}
 use Rattle.state_model.specs.declared.geometry.Geometry.{Geometry}
 use Rattle.state_model.specs.declared.stream.Extents.{Extents}
-use Rattle.state_model.specs.declared.stream.Stream.TheVariants.{Placed}
+use Rattle.state_model.specs.declared.stream.Stream.{Stream}
+use Rattle.state_model.specs.declared.stream.Stream.TheVariants.{Held, Placed}
 use Rattle.state_model.specs.Loads.{extents_or, most_records, record_count}
 use Rattle.state_model.specs.Streams.{stream_of}
 use Rattle.volume_model.specs.Volumes.{Volume, cluster_bits, file_in, table_file}
@@ -25,7 +26,7 @@ use Rattle.draft_growth.specs.declared.table.Table.{Table}
 use Rattle.draft_growth.specs.Growing.{grown_record, GrowsTable, IsTable, numbers_more, space_of, table_clusters, table_records}
 use Rattle.plan_edits.specs.Edits.{HasBitmap, mirror_key}
 use Rattle.plan_edits.specs.Moves.{EditsDraft}
-use Rattle.plan_table.specs.Growing.{GrowsVolumeTable}
+use Rattle.plan_table.specs.Growing.{GrowsVolumeTable, longer_table}
 
 -- the clusters that the records take of these bits, and those that their bitmap takes then
 abbrev pub table_runs : List Bool → Table → List Run
@@ -60,6 +61,25 @@ abbrev pub GrownIsEdit : Type 0
 GrownIsEdit = (c : Content) (g : Geometry) (clusters : ℕ) (v : Volume) (bits : List Bool) (bitmap mirror : Extents) (t : Table) (b : Bitmap) (old new : List Touched) (after : Table) (marked : Bitmap) → g.per_cluster ≡ 8 → Stands (drafted old c) g clusters v
     → GrowsOfVolume c v bits bitmap mirror t b old new after marked
     → (bodies : List NewBody) × (EditsDraft c old new bodies × GrowsVolumeTable (drafted old c) v t.bitmap.file (table_runs bits t) t.bitmap.stream (numbers_runs v.per bits t) after.bitmap.stream (written_record after.bitmap.file) bodies)
+
+-- What is touched is in order then, and each of its bodies is whole.
+abbrev pub GrownIsKept : Type 0
+GrownIsKept = (c : Content) (g : Geometry) (clusters : ℕ) (v : Volume) (bits : List Bool) (bitmap mirror : Extents) (t : Table) (b : Bitmap) (old new : List Touched) (after : Table) (marked : Bitmap) → g.per_cluster ≡ 8 → Stands (drafted old c) g clusters v
+    → GrowsOfVolume c v bits bitmap mirror t b old new after marked → IsKept new
+
+-- each of so many bits lies below the initialised size, where they stand in clusters
+abbrev pub AreBegun : ℕ → Stream → Type 0
+AreBegun count (Held value) = ⊤
+AreBegun count (Placed e) = count ≤ 8 * e.initialised
+
+-- So do the bits of all numbers, the new ones too.
+abbrev pub NumbersAreBegun : Type 0
+NumbersAreBegun = (c : Content) (g : Geometry) (clusters : ℕ) (v : Volume) (bits : List Bool) (bitmap mirror : Extents) (t : Table) (b : Bitmap) (old new : List Touched) (after : Table) (marked : Bitmap) → g.per_cluster ≡ 8 → Stands (drafted old c) g clusters v
+    → GrowsOfVolume c v bits bitmap mirror t b old new after marked → AreBegun (record_count v.table + table_records) after.bitmap.stream
+
+-- The records lie in the longer table of that state.
+abbrev pub LongerTable : Type 0
+LongerTable = (c : Content) (v : Volume) (bits : List Bool) (bitmap mirror : Extents) (t : Table) (b : Bitmap) (old new : List Touched) (after : Table) (marked : Bitmap) → GrowsOfVolume c v bits bitmap mirror t b old new after marked → after.extents ≡ longer_table v.per (table_runs bits t) v.table
 
 -- Each new number is taken with the sequence 1.
 abbrev pub NewSequences : Type 0

@@ -7,4 +7,6 @@
 
 mod laws;
 
-pub use laws::{grown_is_edit, new_sequences_are_one};
+pub use laws::{
+    grown_is_edit, grown_is_kept, longer_table_lies, new_sequences_are_one, numbers_are_begun,
+};

@@ -10,7 +10,7 @@ use Rattle.disk_model.specs.declared.block.BlockKind.TheVariants.{Plain, FileRec
 use Rattle.disk_model.specs.declared.block.Change.{Change}
 use Rattle.disk_model.specs.Bodies.{BodyOf}
 use Rattle.disk_model.specs.Content.{Content}
-use Rattle.disk_model.specs.Sectors.{sectors, overlap}
+use Rattle.disk_model.specs.Sectors.{sectors}
 use Rattle.record_model.specs.declared.runs.Run.{Run}
 use Rattle.record_model.specs.Constants.{data_type, file_name}
 use Rattle.record_model.specs.Pairs.{cluster_limit, HasSpelling}
@@ -23,18 +23,16 @@ use Rattle.state_model.specs.declared.geometry.Geometry.{Geometry}
 use Rattle.state_model.specs.declared.stream.Extents.{Extents}
 use Rattle.state_model.specs.declared.stream.Stream.{Stream}
 use Rattle.state_model.specs.declared.stream.Stream.TheVariants.{Held, Placed}
-use Rattle.state_model.specs.Loads.{boot_block, Used, slot_of, whole_record, is_used, extents_or, total_clusters}
+use Rattle.state_model.specs.Loads.{Used, slot_of, whole_record, is_used, extents_or, total_clusters}
 use Rattle.state_model.specs.Streams.{block_at}
 use Rattle.volume_model.specs.Volumes.{Volume, file_in, file_stream, cluster_bits, cluster_bitmap, bytes_or, log_file}
 use Rattle.volume_model.specs.Sizes.{has_hole}
-use Rattle.volume_model.specs.Owners.{uses}
 use Rattle.stream_laws.specs.Owners.{initialised_in}
 use Rattle.stream_laws.specs.Sharing.{StreamKey, stream_at, runs_in}
 use Rattle.stream_laws.specs.Tables.{table_key}
 use Rattle.stream_laws.proofs.Placing.{lies}
 use Rattle.stream_laws.proofs.Recording.{record_read}
 use Rattle.stream_laws.proofs.Rewriting.{volume_parts}
-use Rattle.stream_laws.proofs.Sharing.{streams_apart}
 use Rattle.stream_laws.proofs.Tabling.{read_in_use, table_extents_is, table_runs}
 use Rattle.stream_runs.specs.Runs.{grown, last_cluster}
 use Rattle.space_model.specs.Choosing.{chosen}
@@ -43,15 +41,12 @@ use Rattle.state_streams.proofs.Lying.{sizes_are, few_there}
 use Rattle.names_stay.proofs.tree_laws.Ascending.{all_by}
 use Rattle.tree_model.specs.declared.script.Op.{Op}
 use Rattle.names_stay.specs.plan_owners.Agreeing.{IsJudged, log_key}
-use Rattle.names_stay.specs.plan_owners.Kinds.{cluster_of}
-use Rattle.names_stay.proofs.plan_owners.ByKind.{in_grid, owned_as, inside}
 use Rattle.names_stay.proofs.plan_owners.Standing.{begins}
 use Rattle.plans_keep.specs.state_blocks.Needing.{IsNeeded}
 use Rattle.plans_keep.proofs.state_blocks.Needing.{listed_judged}
 use Rattle.plan_bodies.specs.Bodies.{NewBody, content_with}
 use Rattle.plan_draft.specs.declared.touched.Touched.{Touched}
 use Rattle.plan_draft.specs.Touching.{bodies_of, IsOldOf}
-use Rattle.plan_draft.specs.Finishing.{change_start, change_end, changes_of}
 use Rattle.plan_draft.proofs.Same.{all_same}
 use Rattle.names_stay.proofs.plan_model.OneRecord.{OwnRecord, own_record, slot_begins}
 use Rattle.names_stay.specs.draft_bits.Filling.{first_past}
@@ -71,15 +66,13 @@ use Rattle.names_stay.specs.file_puts.Puts.{first_fresh}
 use Rattle.names_stay.specs.file_puts.Written.{WritesBy, HasWritten}
 use Rattle.names_stay.proofs.written_values.Growths.{growth_is}
 use Rattle.plans_keep.specs.plan_spares.Plans.{HasOwnLists}
-use Rattle.plans_keep.specs.Keeping.{AreFinished, TouchesWell, ChangesKeep, PlansKeep}
-use Rattle.plans_keep.proofs.Keeping.{each_change}
-use Rattle.writes_keep.specs.Writes.{HasWholeSectors, IsOffLog, WriteKeeps, WritesKeep}
+use Rattle.plans_keep.specs.Keeping.{AreFinished, TouchesWell, PlansKeep}
+use Rattle.writes_keep.specs.Writes.{HasWholeSectors, IsWritten, WriteKeeps, WritesKeep}
 use Rattle.writes_keep.proofs.Given.{IsDataOf, is_data_of}
 use Rattle.writes_keep.proofs.Touching.{IsWell, AreSectors, IsRecord}
 use Rattle.writes_keep.proofs.Putting.{judged_sector, grown_sector, GoesTo, AllWell, change_well}
-use Rattle.writes_keep.proofs.Second.{off_second}
-use Rattle.writes_keep.proofs.Behind.{IsTouched, table_kind, bitmap_kind, other_file, user_is, v_per, w_per, w_once, same_clusters, not_user, same_runs, log_stays, data_after, data_kind, is_touched, q, q_file, q_user, lists_after, upper_stays, streams_after, journal_after, same_file, count_after}
-use Rattle.writes_keep.proofs.Aside.{has_cluster, takes_clear, still_aside, off_cluster}
+use Rattle.writes_keep.proofs.Behind.{IsTouched, table_kind, bitmap_kind, other_file, user_is, v_per, same_clusters, not_user, same_runs, data_after, data_kind, is_touched, q, q_file, q_user, lists_after, upper_stays, streams_after, journal_after, same_file, count_after}
+use Rattle.writes_keep.proofs.Leaving.{IsWrittenAt, Leads, IsAsked, all_led}
 
 few_runs : (o : Option Stream) (runs : List Run) (most : ℕ) → ((e : Extents) → o ≡ Some (Placed e) → total_clusters e.runs ≤ most) → runs_in o ≡ runs → total_clusters runs ≤ most
 few_runs None runs most each is = subst (λ (l : List Run). total_clusters l ≤ most) is (omega arith)
@@ -109,6 +102,9 @@ module _ (keeps : PlansKeep) (body : RecordIsBody) (c : Content) (g : Geometry) 
 
   eight : v.per ≡ 8
   eight = v_per c g clusters v s op n stamp a r via x new k h
+
+  user : first_user_record ≤ n
+  user = (user_is c g clusters v s op n stamp a r via x new k h).user
 
   other_number : (m : ℕ) → m < 16 → m ≢ n
   other_number m low = not_user c g clusters v s op n stamp a r via x new k h m (omega (arith, low))
@@ -142,7 +138,7 @@ module _ (keeps : PlansKeep) (body : RecordIsBody) (c : Content) (g : Geometry) 
       }
 
   no_mirror : has_mirror s.mirror n ≡ false
-  no_mirror = (let user = (user_is c g clusters v s op n stamp a r via x new k h).user in ap (λ (t : Bool). t && ltb n (s.mirror.real / 1024)) (le-ltb n 4 (omega (arith, user))))
+  no_mirror = (let high = user in ap (λ (t : Bool). t && ltb n (s.mirror.real / 1024)) (le-ltb n 4 (omega (arith, high))))
 
   record_is : IsRecord (GoesTo s n runs_now) (IsJudged v) s.table s.mirror n
   record_is = record { alone = no_mirror; goes = λ b at. inl at; begun = record_begun }
@@ -272,69 +268,47 @@ module _ (keeps : PlansKeep) (body : RecordIsBody) (c : Content) (g : Geometry) 
   lists_then : HasOwnLists d w
   lists_then = lists_after c g clusters v s op n stamp a r via x new k h each lists
 
-  -- ---- off other streams
-
-  -- the cluster of a block that is touched is none of another stream
-  none_there : (t : StreamKey) (b : Block) → t.file ≢ n → t ≢ table_key → t ≢ bitmap_key → IsTouched w n b → uses (runs_in (stream_at v t)) (cluster_of b) ≡ 0
-  none_there t b file no_table no_bits touched =
-      let used : 1 ≤ uses (runs_in (stream_at w touched.own.stream)) (b.first / 8) = has_cluster w b touched.own (w_per c g clusters v s op n stamp a r via x new k h) h.draft.stands.some in
-      let apart : uses (runs_in (stream_at w touched.own.stream)) (b.first / 8) + uses (runs_in (stream_at w t)) (b.first / 8) ≤ 1 = streams_apart w touched.own.stream t (w_once c g clusters v s op n stamp a r via x new k h) (other touched.own.stream touched.own.number touched.which) (b.first / 8) in
-      let same : uses (runs_in (stream_at w t)) (b.first / 8) ≡ uses (runs_in (stream_at v t)) (b.first / 8) = ap (λ (l : List Run). uses l (b.first / 8)) (same_runs c g clusters v s op n stamp a r via x new k h t file) in
-      omega (arith, used, apart, same)
-    where
-      other : (u : StreamKey) (i : ℕ) → ((u ≡ table_key) × (i ≡ n)) ⊎ ((u ≡ bitmap_key) ⊎ (u ≡ data_of n)) → u ≢ t
-      other u i (inl its) is = no_table (sym is ∙ its.0)
-      other u i (inr (inl bits)) is = no_bits (sym is ∙ bits)
-      other u i (inr (inr there)) is = file (ap (λ (y : StreamKey). y.file) (sym is ∙ there))
-
-  off : (b : Block) → IsTouched w n b → IsOffLog v b
-  off b touched =
-      let per : w.per ≡ 8 = w_per c g clusters v s op n stamp a r via x new k h in
-      let low = inside d g clusters w b.kind (cluster_of b) h.draft.stands (owned_as w b per touched.own) in
-      let count = same_clusters c g clusters v s op n stamp a r via x new k h in
-      record {
-        grid = in_grid w b per touched.own;
-        inside = omega (arith, low, count);
-        apart = none_there log_key b (other_number log_file (omega arith)) (other_file log_key table_key (λ e. omega (arith, e))) (other_file log_key bitmap_key (λ e. omega (arith, e))) touched;
-      }
-
-  other_cluster : (t : StreamKey) (i : ℕ) → t.file < first_user_record → t ≢ table_key → t ≢ bitmap_key → 0 < uses (runs_in (stream_at v t)) i → (b : Block) → IsTouched w n b → cluster_of b ≢ i
-  other_cluster t i own no_table no_bits has b touched same =
-      let none = none_there t b (not_user c g clusters v s op n stamp a r via x new k h t.file own) no_table no_bits touched in
-      let there : uses (runs_in (stream_at v t)) (cluster_of b) ≡ uses (runs_in (stream_at v t)) i = ap (uses (runs_in (stream_at v t))) same in
-      omega (arith, has, none, there)
-
-  -- what holds of each block that is touched holds of each that is changed
-  each_block : (P : Block → Type 0) → ((b : Block) → IsTouched w n b → P b) → AllByRecursion (λ (y : Change). P y.block) (changes_of new)
-  each_block P holds =
-      each_change (λ (y : Change). P y.block) new
-      (all_by (IsWell (GoesTo s n runs_now) (IsJudged v)) (λ (t : Touched). change_start t < change_end t → P t.block) (λ t is lt. holds t.block (is_touched c g clusters v s op n stamp a r via x new k h t.block is.goes)) new all_well)
-
   -- ---- all of it
 
-  kept_of : WriteKeeps c g v s h.bodies (changes_of new) w
-  kept_of = record {
-    keeps = subst (λ (xs : List Change). ChangesKeep c v h.bodies xs w) done.are
-        (keeps c g clusters v w h.bodies h.gave new changes k.sized k.eight k.stands h.draft h.same done (touches_well new done.olds all_well) (log_stays c g clusters v s op n stamp a r via x new k h) lists
-        (λ b listed. inr (listed_judged d w b listed (lists_then listed.number listed.file listed.is_file))));
+  leads : Leads c g clusters v h.bodies w
+  leads = record {
+    sized = k.sized;
+    eight = k.eight;
+    stands = k.stands;
+    gave = h.gave;
+    draft = h.draft;
+    quiet = λ t quiet. same_runs c g clusters v s op n stamp a r via x new k h t (λ is. quiet (inr (inr (inr (inr (subst (λ (i : ℕ). first_user_record ≤ i) (sym is) user))))));
+    takes = h.left.takes;
+  }
+
+  written_at : (b : Block) → IsTouched w n b → IsWrittenAt w b
+  written_at b touched = record { own = touched.own; written = of_file touched.own.stream touched.own.number touched.which; second = not_second touched.own.stream touched.own.number touched.which }
+    where
+      of_file : (t : StreamKey) (i : ℕ) → ((t ≡ table_key) × (i ≡ n)) ⊎ ((t ≡ bitmap_key) ⊎ (t ≡ data_of n)) → IsWritten t.file
+      of_file t i (inl its) = inl (ap (λ (y : StreamKey). y.file) its.0)
+      of_file t i (inr (inl bits)) = inr (inr (inr (inl (ap (λ (y : StreamKey). y.file) bits))))
+      of_file t i (inr (inr there)) = inr (inr (inr (inr (subst (λ (y : StreamKey). first_user_record ≤ y.file) (sym there) user))))
+
+      not_second : (t : StreamKey) (i : ℕ) → ((t ≡ table_key) × (i ≡ n)) ⊎ ((t ≡ bitmap_key) ⊎ (t ≡ data_of n)) → t ≡ table_key → i ≢ 2
+      not_second t i (inl its) is second = (let own : n ≡ 2 = sym its.1 ∙ second in omega (arith, own, user))
+      not_second t i (inr (inl bits)) is second = other_file bitmap_key table_key (λ e. omega (arith, e)) (sym bits ∙ is)
+      not_second t i (inr (inr there)) is second = other_file (data_of n) table_key (λ e. omega (arith, e, user)) (sym there ∙ is)
+
+  each_written : AllByRecursion (λ (t : Touched). IsWrittenAt w t.block) new
+  each_written = all_by (IsWell (GoesTo s n runs_now) (IsJudged v)) (λ (t : Touched). IsWrittenAt w t.block) (λ t is. written_at t.block (is_touched c g clusters v s op n stamp a r via x new k h t.block is.goes)) new all_well
+
+  asked : IsAsked c v d w s
+  asked = record {
     lists = lists_then;
     upper = upper_stays c g clusters v s op n stamp a r via x new k h each lists;
     streams = streams_after c g clusters v s op n stamp a r via x new k h each lists;
     journal = journal_after c g clusters v s op n stamp a r via x new k h;
-    boot = λ t own. same_runs c g clusters v s op n stamp a r via x new k h t (not_user c g clusters v s op n stamp a r via x new k h t.file own);
-    log = log_stays c g clusters v s op n stamp a r via x new k h;
-    off = each_block (IsOffLog v) off;
-    others = λ t i own no_table no_bits has. each_block (λ (b : Block). cluster_of b ≢ i) (other_cluster t i own no_table no_bits has);
-    second = each_block (λ (b : Block). overlap b (boot_block g 2) ≡ false) (off_second d g clusters w h.draft.stands n (user_is c g clusters v s op n stamp a r via x new k h).user);
-    count = count_after c g clusters v s op n stamp a r via x new k h each lists;
-    files = λ m own. same_file c g clusters v s op n stamp a r via x new k h each lists m (not_user c g clusters v s op n stamp a r via x new k h m own);
-    takes = takes_clear c g clusters v s op n stamp a r via x new k h;
-    aside = still_aside c g clusters v s op n stamp a r via x new k h;
-    spares = λ i below aside. each_block (λ (b : Block). cluster_of b ≢ i) (off_cluster c g clusters v s op n stamp a r via x new k h i below aside);
+    count = (let same = count_after c g clusters v s op n stamp a r via x new k h each lists in omega (arith, same));
+    files = λ m own no_table no_root. same_file c g clusters v s op n stamp a r via x new k h each lists m (not_user c g clusters v s op n stamp a r via x new k h m own);
   }
 
   kept : WriteKeeps c g v s h.bodies changes w
-  kept = subst (λ (xs : List Change). WriteKeeps c g v s h.bodies xs w) (sym done.are) kept_of
+  kept = all_led c g clusters v h.bodies w leads keeps s new changes h.same done each_written (touches_well new done.olds all_well) lists asked
 
 pub all_kept : MadeIsCounted → PlansKeep → RecordIsBody → WritesKeep
 all_kept counted keeps body c g clusters v s op n stamp a r x new changes k h =

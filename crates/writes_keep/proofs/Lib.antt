@@ -5,5 +5,5 @@ pub mod Behind
 pub mod Second
 pub mod Given
 pub mod Used
-pub mod Aside
+pub mod Leaving
 pub mod Keeping

@@ -1,6 +1,5 @@
--- Record 2, where the boot sector says, is none of what is put.
-use Rattle.std.proofs.Common.{◌≡◌, ℕ, ◌+◌, ◌*◌, ◌≤◌, true, false, List, Option, Some, None, refl, sym, ap, ap₂, ◌∙◌, inl, inr, arith}
-use Rattle.std.specs.Prelude.{◌⊎◌}
+-- Record 2, where the boot sector says, is a block of the file table.
+use Rattle.std.proofs.Common.{◌≡◌, ◌≢◌, ℕ, ◌+◌, ◌*◌, true, false, List, Option, Some, None, refl, sym, ap, ap₂, ◌∙◌}
 use Rattle.std.proofs.lemmas.Bool.{and_parts, eqb-true, false_from_ne_true}
 use Rattle.disk_model.specs.declared.block.Block.{Block}
 use Rattle.disk_model.specs.declared.block.BlockKind.{BlockKind}
@@ -8,7 +7,6 @@ use Rattle.disk_model.specs.declared.block.BlockKind.TheVariants.{FileRec}
 use Rattle.disk_model.specs.Content.{Content}
 use Rattle.disk_model.specs.Sectors.{overlap}
 use Rattle.record_model.specs.declared.runs.Run.{Run}
-use Rattle.file_tree.specs.Walks.{first_user_record}
 use Rattle.state_model.specs.declared.geometry.Geometry.{Geometry}
 use Rattle.state_model.specs.Loads.{boot_block}
 use Rattle.state_model.specs.Streams.{block_at}
@@ -24,14 +22,12 @@ use Rattle.names_stay.proofs.tree_laws.Keeping.{rules_of}
 use Rattle.names_stay.specs.plan_owners.States.{Stands}
 use Rattle.names_stay.proofs.plan_owners.Outside.{once}
 use Rattle.names_stay.proofs.plan_owners.Standing.{rule_4_parts, begins}
-use Rattle.names_stay.specs.plan_edits.Edits.{bitmap_key}
-use Rattle.names_stay.specs.step_model.Streams.{data_of}
-use Rattle.writes_keep.proofs.Behind.{IsTouched, table_kind, other_file}
+use Rattle.writes_keep.proofs.Behind.{table_kind}
 
 block_with : ℕ → BlockKind → Block
 block_with first kind = record { first = first; kind = kind }
 
-module _ (c : Content) (g : Geometry) (clusters : ℕ) (v : Volume) (s : Stands c g clusters v) (n : ℕ) (user : first_user_record ≤ n) where
+module _ (c : Content) (g : Geometry) (clusters : ℕ) (v : Volume) (s : Stands c g clusters v) where
   second_place : keeps_place v ≡ true → is_at (v.mft * v.per + 2 * 2) (placed_record v 2) ≡ true
   unfolding keeps_place
   second_place placed = (and_parts _ _ (and_parts _ _ (and_parts _ _ placed).1).1).0
@@ -52,11 +48,7 @@ module _ (c : Content) (g : Geometry) (clusters : ℕ) (v : Volume) (s : Stands 
   second_owned : Owns v (boot_block g 2)
   second_owned = record { stream = table_key; number = 2; lies = ap₂ (λ (l : List Run) (k : BlockKind). block_at v.per l k 2) (table_runs c g clusters v (begins c g clusters v s)) table_kind ∙ second_block }
 
-  pub off_second : (b : Block) → IsTouched v n b → overlap b (boot_block g 2) ≡ false
+  -- another block that the volume owns shares no sector with it
+  pub off_second : (b : Block) (own : Owns v b) → (own.stream ≡ table_key → own.number ≢ 2) → overlap b (boot_block g 2) ≡ false
   unfolding second_owned
-  off_second b touched = false_from_ne_true (overlap b (boot_block g 2)) (λ meets. (let one = are_one v b (boot_block g 2) s.some (once c g clusters v s) touched.own second_owned meets in by one.stream one.number touched.which))
-    where
-      by : touched.own.stream ≡ table_key → touched.own.number ≡ 2 → ((touched.own.stream ≡ table_key) × (touched.own.number ≡ n)) ⊎ ((touched.own.stream ≡ bitmap_key) ⊎ (touched.own.stream ≡ data_of n)) → ⊥
-      by stream number (inl its) = (let two : n ≡ 2 = sym its.1 ∙ number in omega (arith, two, user))
-      by stream number (inr (inl bits)) = other_file bitmap_key table_key (λ e. omega (arith, e)) (sym bits ∙ stream)
-      by stream number (inr (inr there)) = other_file (data_of n) table_key (λ e. omega (arith, e, user)) (sym there ∙ stream)
+  off_second b own other = false_from_ne_true (overlap b (boot_block g 2)) (λ meets. (let one = are_one v b (boot_block g 2) s.some (once c g clusters v s) own second_owned meets in other one.stream one.number))

@@ -40,7 +40,7 @@ module _ (Goes Judged : Block → Type 0) where
     spelled = subst (λ (x : Block). has_spelling x.kind bytes ≡ true) (same_block-is b t.block same) new.spelled;
   }
 
-  touch_well : (touched : List Touched) (b : Block) (fresh : Bool) (bytes : List ℕ) (old : BodyOf) → IsWellPut Goes Judged b fresh bytes → AllByRecursion IsWell touched → AllByRecursion IsWell (touch b fresh bytes old touched)
+  pub touch_well : (touched : List Touched) (b : Block) (fresh : Bool) (bytes : List ℕ) (old : BodyOf) → IsWellPut Goes Judged b fresh bytes → AllByRecursion IsWell touched → AllByRecursion IsWell (touch b fresh bytes old touched)
   touch_well [] b fresh bytes old new all = (new, tt)
   touch_well (t ∷ touched) b fresh bytes old new all =
       let rest : AllByRecursion IsWell (touch b fresh bytes old touched) = touch_well touched b fresh bytes old new all.1 in
@@ -97,7 +97,7 @@ module _ (Goes Judged : Block → Type 0) where
 
   -- ---- bits
 
-  bits_well : (c : Content) (bitmap : Extents) (first len : ℕ) (value : Bool) (old new : List Touched) → AreSectors bitmap.runs (first_past bitmap) → PutsBits c 8 bitmap first len value old new → AllByRecursion IsWell old → AllByRecursion IsWell new
+  pub bits_well : (c : Content) (bitmap : Extents) (first len : ℕ) (value : Bool) (old new : List Touched) → AreSectors bitmap.runs (first_past bitmap) → PutsBits c 8 bitmap first len value old new → AllByRecursion IsWell old → AllByRecursion IsWell new
   bits_well c bitmap first len value old new are put all = subst (AllByRecursion IsWell) (sym put.1.1) (bytes_well c bitmap.runs (first_past bitmap) (first / 8) put.0 old are all)
 
   clusters_well : (c : Content) (bitmap : Extents) (value : Bool) (o : Option ℕ) (len : ℕ) (old new : List Touched) → AreSectors bitmap.runs (first_past bitmap) → PutsClusters c 8 bitmap value o len old new → AllByRecursion IsWell old → AllByRecursion IsWell new

@@ -2,7 +2,7 @@ use Rattle.std.proofs.Common.{◌≤◌, length}
 use Rattle.record_model.specs.disk_model.Content.{Content}
 use Rattle.index_tree.specs.index_model.Indexes.{node_of_block}
 use Rattle.index_plan.specs.declared.plan.Rooted.{Rooted}
-use Rattle.index_plan.specs.Laws.{InsertsInto, LevelFits, NeedsLevel, TakesFew}
+use Rattle.index_plan.specs.Laws.{InsertsInto, LevelFits, NeedsLevel, PlansAlong}
 use Rattle.index_plan.specs.Reading.{NodeReads, nodes_of}
 use Rattle.index_change.specs.Orders.{goes}
 use Rattle.index_tree.specs.Places.{place_of}
@@ -27,4 +27,4 @@ returns-clause-deep g c =
 pub returns-clause-taken : goal.returns-clause-taken
 returns-clause-taken g c =
     let before = goes c.args.before.now.up.now c.args.before.now.name.now in
-    swap_if (g.V.View.content c.args.v.now) (λ (content : Content). node_of_block content (place_of c.args.dir.now)) c.plan_insert.result (length c.args.key.value ≤ 576) (λ (reads : NodeReads) (r : Rooted). TakesFew reads before c.args.key c.args.draft c.args.root c.args.room r) c.plan_insert.ensures.taken
+    swap_if (g.V.View.content c.args.v.now) (λ (content : Content). node_of_block content (place_of c.args.dir.now)) c.plan_insert.result (length c.args.key.value ≤ 576) (λ (reads : NodeReads) (r : Rooted). PlansAlong reads before c.args.key c.args.draft c.args.root c.args.room r) c.plan_insert.ensures.taken

@@ -4,11 +4,11 @@ use Rattle.index_model.proofs.host_base.Known.{one}
 use Rattle.index_plan.specs.declared.plan.Rooted.{Rooted}
 use Rattle.index_model.specs.Trees.{raw}
 use Rattle.index_plan.specs.Lists.{rise, rooted}
-use Rattle.index_plan.specs.Laws.{InsertsInto, LevelFits, NeedsLevel, TakesFew}
+use Rattle.index_plan.specs.Laws.{InsertsInto, LevelFits, NeedsLevel, PlansAlong}
 use Rattle.index_plan.specs.Reading.{nodes_of, way_of}
 use Rattle.index_plan.proofs.Steps.{weaker, on_ok, deeper, way_failed, way_ended}
 use Rattle.index_plan.proofs.Fitting.{insertion_fits, insertion_left}
-use Rattle.index_plan.proofs.Inserting.{inserts, as_level, takes_few}
+use Rattle.index_plan.proofs.Inserting.{inserts, as_level, plans_along}
 use Rattle.index_plan.proofs.insertion.plan_insert.Goals as goal
 
 pub returns-clause-plan : goal.returns-clause-plan
@@ -49,8 +49,8 @@ returns-clause-taken g c =
     let known = g.N.Nodes.reads c.args.nodes.now in
     let goes = g.T.Test.goes c.args.test.now in
     weaker c.plan_at.result (λ (p : Rooted). p ≡ rooted c.args.room c.args.root c.stop-at.result (rise c.in_ok-path.path.items (record { pending = Some (raw c.args.key None); plan = c.args.draft }))) _
-    (λ x is short. one known (λ reads. way_of reads goes c.args.root ≡ Ok c.in_ok-path.path.items) (λ reads. TakesFew reads goes c.args.key c.args.draft c.args.root c.args.room x)
-    (λ reads w. takes_few reads goes c.args.root c.args.room c.stop-at.result c.in_ok-path.path.items c.args.key c.args.draft x c.stop-at.ensures.value w
+    (λ x is short. one known (λ reads. way_of reads goes c.args.root ≡ Ok c.in_ok-path.path.items) (λ reads. PlansAlong reads goes c.args.key c.args.draft c.args.root c.args.room x)
+    (λ reads w. plans_along reads goes c.args.root c.args.room c.stop-at.result c.in_ok-path.path.items c.args.key c.args.draft x c.stop-at.ensures.value w is
     (insertion_left c.args.room c.args.root c.stop-at.result c.in_ok-path.path.items c.args.key c.args.draft x c.requires.unwritten c.in_ok-path.ensures.sized (let few = c.in_ok-path.ensures.few in let enough = c.requires.enough in omega arith) short is)) c.in_ok-path.ensures.way)
     c.plan_at.ensures.plan
 

@@ -1,0 +1,5 @@
+pub mod Counted
+pub mod First
+pub mod Full
+pub mod Held
+pub mod Growing

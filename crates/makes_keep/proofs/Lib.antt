@@ -1,0 +1,9 @@
+pub mod Fresh
+pub mod Judging
+pub mod Untorn
+pub mod Nodes
+pub mod Making
+pub mod Keeping
+pub mod Naming
+pub mod Growing
+pub mod Welcoming

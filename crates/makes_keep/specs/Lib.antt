@@ -1,0 +1,4 @@
+pub mod Makes
+pub mod Naming
+pub mod Growing
+pub mod Welcoming

@@ -1,0 +1,4 @@
+pub mod Finding
+pub mod Quiet
+pub mod Behind
+pub mod Growing
