@@ -1,13 +1,11 @@
 -- What a draft has put of a new file behind the growth of its directory's index is the step of its content.
-use Rattle.std.proofs.Common.{◌≡◌, ℕ, ◌+◌, ◌-◌, ◌<◌, ◌≤◌, Bool, true, false, List, [], ◌∷◌, ◌++◌, length, Option, Some, None, Ok, refl, sym, ap, ap₂, subst, ◌∙◌, arith}
+use Rattle.std.proofs.Common.{◌≡◌, ℕ, ◌+◌, ◌-◌, ◌<◌, ◌≤◌, Bool, true, false, List, [], ◌++◌, length, Option, Some, None, refl, sym, ap, subst, ◌∙◌, arith}
 use Rattle.std.specs.List.{AllByRecursion}
-use Rattle.std.proofs.lemmas.Bool.{and_parts, both_ways}
-use Rattle.host_base.specs.declared.file_ref.FileRef.{FileRef}
+use Rattle.std.proofs.lemmas.Bool.{both_ways}
 use Rattle.disk_model.specs.Content.{Content, HasSizes}
 use Rattle.record_model.specs.declared.entry.Entry.{Entry as Raw}
 use Rattle.record_model.specs.Records.{Record, used_of}
 use Rattle.file_tree.specs.declared.node.Node.{Node}
-use Rattle.file_tree.specs.declared.link.Link.{Link}
 use Rattle.index_model.specs.declared.key.Key.{Key}
 use Rattle.index_model.specs.Trees.{Tree, levels}
 use Rattle.index_model.specs.Indexes.{node_of_block, nodes_of, most_levels}
@@ -18,48 +16,30 @@ use Rattle.index_change.specs.Plans.{root_room, seventeen, needs_level}
 use Rattle.state_model.specs.declared.geometry.Geometry.{Geometry}
 use Rattle.state_model.specs.declared.stream.Extents.{Extents}
 use Rattle.volume_model.specs.Indexes.{index_place, root_value}
-use Rattle.volume_model.specs.Volumes.{Volume, file_in, table_file, upcase_file, upper_of, cluster_bits}
+use Rattle.volume_model.specs.Volumes.{Volume, file_in, table_file, upper_of, cluster_bits}
 use Rattle.volume_state.specs.Trees.{tree_of}
-use Rattle.tree_laws.specs.Contents.{SameUpper}
 use Rattle.tree_model.specs.declared.script.Op.TheVariants.{Create}
-use Rattle.tree_model.specs.declared.reply.Reply.{Reply}
 use Rattle.tree_model.specs.declared.reply.Reply.TheVariants.{Created}
 use Rattle.tree_model.specs.Needs.{needed}
-use Rattle.tree_model.specs.Refusals.{new_name, parent_path, first_of}
-use Rattle.tree_model.specs.Effects.{numbers_to_take, least_ref, new_link}
-use Rattle.plan_owners.specs.States.{Stands}
+use Rattle.tree_model.specs.Refusals.{new_name}
 use Rattle.plan_bodies.proofs.Putting.{sized_with}
 use Rattle.plan_draft.specs.declared.touched.Touched.{Touched}
 use Rattle.plan_draft.specs.Touching.{bodies_of}
 use Rattle.plan_draft.specs.Drafts.{drafted}
-use Rattle.made_trees.specs.plan_model.Informed.{with_record}
-use Rattle.made_trees.proofs.plan_model.Making.{leads_to_made}
-use Rattle.made_trees.specs.record_times.Times.{timed_record}
 use Rattle.made_trees.specs.record_times.Laws.{TimesAreSet}
-use Rattle.made_trees.specs.step_model.Plans.{Plan, made_plan, made_spread, spread_comes, spread_used, content_rows, full_row, new_file_attrs, grows_table, table_in, table_change, used_in, used_if, no_plan, IsMadePlan, IsPlan}
+use Rattle.made_trees.specs.step_model.Plans.{Plan, made_plan, spread_comes, spread_used, full_row, grows_table, table_in, table_change, used_in, used_if, IsMadePlan, IsPlan}
 use Rattle.made_trees.specs.step_model.Placing.{Growth, AllPlaced, wanted_by}
-use Rattle.made_trees.specs.step_model.Spreads.{blocks_in, IsSpread, IsKeyOf, Outcome, Flat, Raised, MayBecome}
-use Rattle.made_trees.specs.step_model.Steps.{HasIndex, Step}
-use Rattle.made_trees.specs.step_model.Contents.{IsLeft}
-use Rattle.made_trees.specs.step_model.Used.{most_used}
-use Rattle.made_trees.proofs.step_model.NeverFull.{never_full}
-use Rattle.made_trees.proofs.change_steps.Planning.{without_journal, at_node}
-use Rattle.made_trees.proofs.made_files.Roots.{OneRoot, one_root, rooted_value}
-use Rattle.plan_owners.proofs.Standing.{streams_at}
-use Rattle.volume_model.specs.Sizes.{keeps_streams}
-use Rattle.tree_model.specs.Walks.{reached_directory}
+use Rattle.made_trees.specs.step_model.Spreads.{blocks_in, IsSpread, Outcome, Flat, Raised, MayBecome}
+use Rattle.made_trees.specs.step_model.Steps.{Step}
 use Rattle.made_trees.proofs.step_model.Spreading.{plans_spread}
-use Rattle.made_trees.specs.change_steps.Found.{IsPlaceFound, FoundIsThere}
-use Rattle.made_trees.specs.change_steps.Makings.{IsMade, MakingsAreSteps}
+use Rattle.made_trees.specs.change_steps.Found.{FoundIsThere}
+use Rattle.made_trees.specs.change_steps.Makings.{MakingsAreSteps}
 use Rattle.made_trees.specs.new_files.Laws.{NewFileReads}
 use Rattle.made_trees.specs.file_puts.declared.streams.VolumeStreams.{VolumeStreams}
-use Rattle.made_trees.proofs.written_values.Sparing.{elsewhere}
 use Rattle.made_trees.specs.file_makes.declared.newfile.NewFile.{NewFile}
-use Rattle.made_trees.specs.file_makes.Making.{made_record}
-use Rattle.made_trees.specs.made_files.Made.{made_link, made_key, rooted_directory, IsMadeEdit}
-use Rattle.made_trees.specs.Created.{timed_directory, timed_volume, made_volume, MakesFileBy}
+use Rattle.made_trees.specs.made_files.Made.{made_key, IsMadeEdit}
+use Rattle.made_trees.specs.Created.{timed_directory, timed_volume, MakesFileBy}
 use Rattle.made_trees.proofs.Going as going
-use Rattle.made_trees.proofs.Leaving as leaving
 use Rattle.made_steps.specs.Steps.{HasRootOf, TakesStep, MadeFilesAreSteps}
 use Rattle.made_trees.proofs.Nothing.{room_differs_not, index_stays, behind_nothing, file_leaves}
 use Rattle.made_trees.specs.Behind.{MakesFileBehind}
@@ -72,11 +52,9 @@ use Rattle.made_steps.specs.Behind.{MayRise, table_used, TakesStepBehind, MadeBe
 use Rattle.node_spreads.proofs.Counting.{blocks_counted}
 use Rattle.node_spreads.proofs.Widening.{spreads_wider}
 use Rattle.made_trees.specs.Grown.{KeepsIndex}
-use Rattle.made_steps.proofs.Timing.{moved, same_read, times_keep, upper_by}
-use Rattle.made_steps.proofs.Rows.{not_full, same_ref, same_path}
-
-same_node_of : (o : Option Node) (x y : Node) → o ≡ Some x → o ≡ Some y → x ≡ y
-same_node_of o x y one two = cc
+use Rattle.made_steps.proofs.Timing.{moved, same_read, times_keep}
+use Rattle.made_steps.proofs.Making.{Makes}
+use Rattle.made_steps.proofs.Making as making
 
 -- ---- what is put
 
@@ -96,23 +74,11 @@ pub record Takes (c : Content) (g : Geometry) (clusters : ℕ) (v : Volume) (s :
 
 module _ (times_set : TimesAreSet) (reads : NewFileReads) (there_is : FoundIsThere) (makings : MakingsAreSteps) (c : Content) (g : Geometry) (clusters : ℕ) (v : Volume) (s : VolumeStreams) (numbers : Extents) (path : List (List ℕ)) (m : NewFile) (directory a : Node) (r : Record) (growths : List Growth) (u : Volume) (now : Record) (grown : List Touched) (more : ℕ) (value : List ℕ) (used : ℕ) (t : Tree) (fresh : List ℕ) (nodes : NodesPlan) (timed new : List Touched)
     (k : Takes c g clusters v s numbers path m directory a r growths u now grown more value used t fresh nodes timed new) where
-  abbrev n : ℕ
-  n = m.file.number
-
   abbrev dir : ℕ
   dir = m.parent.number
 
-  abbrev first : Content
-  first = drafted grown c
-
   abbrev middle : Content
   middle = drafted timed c
-
-  abbrev last : Content
-  last = drafted new c
-
-  abbrev p : Record
-  p = timed_record m.stamp now
 
   abbrev q : Record
   q = timed_directory m.stamp now
@@ -123,29 +89,29 @@ module _ (times_set : TimesAreSet) (reads : NewFileReads) (there_is : FoundIsThe
   abbrev plan : DirPlan
   plan = k.by.made.put.plan
 
-  abbrev z : Record
-  z = rooted_directory k.by.made.put.plan (timed_directory m.stamp now)
-
-  abbrev f : Record
-  f = made_record (drafted timed c) s.table m
-
-  abbrev w : Volume
-  w = made_volume c u s m now k.by.made.put.plan timed
-
   abbrev key : Key
   key = made_key m
 
-  pub two : IsMadeEdit c x s m q value used t fresh k.by.made.put.plan timed new
-  two = going.made times_set reads c g clusters v s numbers m a r growths u now grown value used t fresh nodes timed new k.by
+  abbrev made : Makes c g clusters v s numbers path m directory a r growths u now grown value used t fresh nodes timed new
+  made = record { has = k.has; finds = k.finds; node = k.node; by = k.by; short = k.short; enough = k.enough; table = k.table }
+
+  abbrev pub two : IsMadeEdit c x s m q value used t fresh k.by.made.put.plan timed new
+  two = making.two times_set reads there_is makings c g clusters v s numbers path m directory a r growths u now grown more value used t fresh nodes timed new made
 
   abbrev pub tree : Tree
-  tree = two.index.tree
+  tree = making.tree times_set reads there_is makings c g clusters v s numbers path m directory a r growths u now grown more value used t fresh nodes timed new made
+
+  abbrev pub own : Plan
+  own = making.own times_set reads there_is makings c g clusters v s numbers path m directory a r growths u now grown more value used t fresh nodes timed new made
+
+  abbrev pub HasRoom : Type 0
+  HasRoom = making.HasRoom times_set reads there_is makings c g clusters v s numbers path m directory a r growths u now grown more value used t fresh nodes timed new made
+
+  abbrev pub Leaves : Type 0
+  Leaves = making.Leaves times_set reads there_is makings c g clusters v s numbers path m directory a r growths u now grown more value used t fresh nodes timed new made
 
   sized_middle : HasSizes middle
   sized_middle = sized_with c (bodies_of timed) k.by.sized
-
-  state_x : Stands middle g clusters x
-  state_x = going.stands times_set reads c g clusters v s numbers m a r growths u now grown value used t fresh nodes timed new k.by
 
   -- ---- the index before
 
@@ -164,13 +130,6 @@ module _ (times_set : TimesAreSet) (reads : NewFileReads) (there_is : FoundIsThe
 
   upper_middle : upper_of middle x ≡ upper_of c v
   upper_middle = keeps.upper
-
-  upper_last : upper_of last w ≡ upper_of middle x
-  upper_last =
-      let bytes : SameUpper middle last x = subst (λ (y : Content). SameUpper middle y x) two.edits.content (leads_to_made middle g clusters x n dir f q z (made_link m) two.bodies sized_middle state_x two.makes).agrees.upper in
-      let user = two.makes.user in
-      let file : file_in w upcase_file ≡ file_in x upcase_file = elsewhere (with_record x n f) dir upcase_file z (λ same. two.makes.apart.upcase (sym same)) ∙ elsewhere x n upcase_file f (λ same. omega (arith, same, user)) in
-      upper_by middle last x w refl file bytes
 
   nodes_same : nodes_of (node_of_block middle (index_place u.per q)) ≡ nodes_of (node_of_block c (index_place v.per r))
   nodes_same = same_read c middle v x r q keeps
@@ -204,47 +163,7 @@ module _ (times_set : TimesAreSet) (reads : NewFileReads) (there_is : FoundIsThe
       let by_nodes = subst (λ (y : ℕ → Option (List Raw)). IsSpread y (upper_of c v) (root_room used value) key t level tree more) nodes_same by_upper in
       spreads_wider (nodes_of (node_of_block c (index_place v.per r))) (upper_of c v) (used_of r.attrs) used value key t level tree more k.least by_nodes
 
-  pub has_root : HasRootOf value nodes tree
-  has_root = sym two.index.root ∙ k.by.made.put.laid.root
-
-  one_root_is : OneRoot q value
-  unfolding keeps_streams
-  one_root_is = one_root x.per x.clusters q value (and_parts _ _ (and_parts _ _ (and_parts _ _ (streams_at middle g clusters x dir q state_x two.makes.file)).0).0).0 k.by.made.entry.root
-
-  a_number : dir ≡ a.number
-  a_number = ap (λ (ref : FileRef). ref.number) k.by.referred
-
-  has_index : HasIndex last w a.number tree
-  has_index = record {
-    r = z;
-    file = ap (file_in w) (sym a_number) ∙ leaving.dir_w times_set reads c g clusters v s numbers m a r growths u now grown value used t fresh nodes timed new k.by;
-    value = plan.root;
-    root = rooted_value q value plan.root one_root_is k.by.made.directory.written;
-    holds = subst (λ (l : List ℕ). HoldsIndex last (index_place u.per z) l plan.root tree) (sym upper_last) two.holds;
-  }
-
   -- ---- the plan
-
-  found : (other : List (List ℕ)) × (Create path ≡ Create other) × IsPlaceFound c v other directory m.name m.file
-  found = there_is.place c g clusters v (Create path) directory m.name m.file k.has k.finds
-
-  at : IsPlaceFound c v path directory m.name m.file
-  at = subst (λ (y : List (List ℕ)). IsPlaceFound c v y directory m.name m.file) (same_path path found.0 found.1) found.2
-
-  abbrev pub own : Plan
-  own = made_spread c v (new_name path) a.number r two.index.tree more
-
-  abbrev pub HasRoom : Type 0
-  HasRoom = spread_used c v a.number r tree more ≤ most_used
-
-  file_a : file_in v a.number ≡ Some r
-  file_a = ap (file_in v) (sym a_number) ∙ k.by.own.file
-
-  key_of_link : (ref : FileRef) → least_ref (numbers_to_take (tree_of c v)) ≡ Some ref → IsKeyOf (new_link a (new_name path) ref) key
-  key_of_link ref least =
-      let same = same_ref (least_ref (numbers_to_take (tree_of c v))) m.file ref at.least least in
-      let link : made_link m ≡ new_link a (new_name path) ref = going.same_link times_set reads c g clusters v s numbers m a r growths u now grown value used t fresh nodes timed new k.by ∙ ap₂ (λ (l : List ℕ) (y : FileRef). new_link a l y) at.named same in
-      subst (λ (l : Link). IsKeyOf l key) link (going.reads_file times_set reads c g clusters v s numbers m a r growths u now grown value used t fresh nodes timed new k.by).key
 
   low_levels : needs_level (upper_of middle x) (root_room used value) key (seventeen fresh) t ≡ true → levels t < most_levels
   low_levels up = (two.index.one_entry up).0
@@ -263,53 +182,33 @@ module _ (times_set : TimesAreSet) (reads : NewFileReads) (there_is : FoundIsThe
   becomes : HasRoom → (o : Outcome) × MayBe o
   becomes low = may low level refl
 
-  is_own : HasRoom → IsMadePlan c v path a own
+  pub is_own : HasRoom → IsMadePlan c v path a own
   unfolding MayBe
   is_own low = record {
     r = r;
-    file = file_a;
+    file = making.file_a times_set reads there_is makings c g clusters v s numbers path m directory a r growths u now grown more value used t fresh nodes timed new made;
     value = value;
     root = value_is;
     t = t;
     holds = holds_before;
     key = key;
-    is_key = key_of_link;
+    is_key = making.key_of_link times_set reads there_is makings c g clusters v s numbers path m directory a r growths u now grown more value used t fresh nodes timed new made;
     outcome = (becomes low).0;
     may = (becomes low).1.0;
     is = (becomes low).1.1;
   }
 
+  pub has_root : HasRootOf value nodes tree
+  has_root = making.has_root times_set reads there_is makings c g clusters v s numbers path m directory a r growths u now grown more value used t fresh nodes timed new made
+
   pub is_plan : HasRoom → IsPlan c v (Create path) 0 own
-  is_plan low = record {
-    own = own;
-    is_own = at_node (reached_directory (upper_of c v) (tree_of c v).nodes (tree_of c v).links (parent_path path)) a (λ (y : Node). IsMadePlan c v path y own) (own ≡ no_plan) (at.walked ∙ ap (λ (y : Node). Ok y) (same_node_of _ at.a a at.node k.node)) (is_own low);
-    is = sym (without_journal c v 0 own k.has.journal refl);
-  }
+  is_plan low = making.is_plan times_set reads there_is makings c g clusters v s numbers path m directory a r growths u now grown more value used t fresh nodes timed new made (is_own low)
 
-  free : HasRoom → first_of (content_rows own) ≡ None
-  free low =
-      let short : length (new_name path) ≤ 255 = subst (λ (l : List ℕ). length l ≤ 255) at.named k.short in
-      let full : full_row own.used ≡ None = not_full (used_of (new_file_attrs (new_name path))) (spread_used c v a.number r tree more ∷ table_used c v) (never_full.made (new_name path) short) (not_full (spread_used c v a.number r tree more) (table_used c v) low k.table) in
-      ap (λ (o : Option Reply). first_of (o ∷ None ∷ None ∷ [])) full
+  pub leaves : growths ≡ own.growths → Leaves
+  leaves same = making.leaves times_set reads there_is makings c g clusters v s numbers path m directory a r growths u now grown more value used t fresh nodes timed new made same
 
-  -- ---- the step
-
-  abbrev pub Leaves : Type 0
-  Leaves = IsLeft c v clusters (n ∷ dir ∷ []) own.growths last w
-
-  is_made : Leaves → IsMade c g clusters v path m.stamp a m.name m.file own last
-  is_made left =
-      let reached = going.reaches times_set reads c g clusters v s numbers m a r growths u now grown value used t fresh nodes timed new k.by in
-      record {
-        after = w;
-        stands = subst (λ (y : Content). Stands y g clusters w) reached.content reached.draft.stands;
-        tree = (going.has_made_file times_set reads c g clusters v s numbers m a r growths u now grown value used t fresh nodes timed new k.by).tree (needed (tree_of c v) 0 (Create path) a) k.enough;
-        left = subst (λ (i : ℕ). IsLeft c v clusters (n ∷ i ∷ []) own.growths last w) a_number left;
-        index = has_index;
-      }
-
-  pub stepped : HasRoom → Leaves → Step g clusters (Create path) m.stamp (Created m.file.number m.file.seq) c last
-  stepped low left = makings.made c g clusters v path m.stamp directory a m.name m.file own last k.has k.finds k.node (is_own low) (free low) (is_made left)
+  pub stepped : HasRoom → Leaves → Step g clusters (Create path) m.stamp (Created m.file.number m.file.seq) c (drafted new c)
+  stepped low left = making.stepped times_set reads there_is makings c g clusters v s numbers path m directory a r growths u now grown more value used t fresh nodes timed new made (is_own low) low left
 
 -- ---- behind an index that has grown
 
@@ -338,7 +237,7 @@ behind_steps times_set reads there_is makings c g clusters v s numbers path m di
     in
     stepped times_set reads there_is makings c g clusters v s numbers path m directory a r growths u now grown more value used t fresh nodes timed new takes
     (k.room (tree times_set reads there_is makings c g clusters v s numbers path m directory a r growths u now grown more value used t fresh nodes timed new takes) (has_root times_set reads there_is makings c g clusters v s numbers path m directory a r growths u now grown more value used t fresh nodes timed new takes))
-    (subst (λ (l : List Growth). IsLeft c v clusters (m.file.number ∷ m.parent.number ∷ []) l (drafted new c) (made_volume c u s m now k.by.made.put.plan timed)) same (leaving.left times_set reads c g clusters v s numbers m a r growths u now grown value used t fresh nodes timed new k.by))
+    (leaves times_set reads there_is makings c g clusters v s numbers path m directory a r growths u now grown more value used t fresh nodes timed new takes same)
 
 -- ---- behind a draft that touched nothing
 

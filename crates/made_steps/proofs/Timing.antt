@@ -56,7 +56,7 @@ use Rattle.made_trees.proofs.written_values.Joining.{puts_record}
 use Rattle.made_trees.proofs.written_values.Sparing.{elsewhere}
 use Rattle.made_trees.specs.Created.{timed_directory}
 use Rattle.made_trees.specs.Grown.{KeepsIndex}
-use Rattle.made_steps.specs.Timed.{PutsTimesBehind, TimesKeepIndex, IndexesMove}
+use Rattle.made_steps.specs.Timed.{PutsTimesOver, TimesKeepGrown, TimesKeepIndex, IndexesMove}
 use Rattle.made_steps.proofs.Frames.{no_mirror, index_away, same_in, root_written}
 
 info_spares : (kind : ℕ) (name : List ℕ) → eqb kind standard_information ≡ false → (a : Attr) → is_attribute_of kind name a ≡ true → is_info a ≡ false
@@ -82,7 +82,7 @@ moved d e here there low high value u uppers nodes h =
 
 -- ---- the times
 
-module _ (times_set : TimesAreSet) (c : Content) (g : Geometry) (clusters : ℕ) (v : Volume) (s : VolumeStreams) (n stamp : ℕ) (r : Record) (growths : List Growth) (u : Volume) (now : Record) (grown timed : List Touched) (k : PutsTimesBehind c g clusters v s n stamp r growths u now grown timed) where
+module _ (times_set : TimesAreSet) (c : Content) (g : Geometry) (clusters : ℕ) (v : Volume) (s : VolumeStreams) (n stamp : ℕ) (r : Record) (growths : List Growth) (u : Volume) (now : Record) (grown timed : List Touched) (k : PutsTimesOver c g clusters v s n stamp r growths u now grown timed) where
   abbrev first : Content
   first = drafted grown c
 
@@ -110,10 +110,10 @@ module _ (times_set : TimesAreSet) (c : Content) (g : Geometry) (clusters : ℕ)
   edit : (bodies : List NewBody) × (EditsDraft c grown timed bodies × WritesValues first u n now p q bodies)
   edit = values_edit.times c g clusters u s.mirror n now p grown timed state_first k.before.own rewritten (puts_record c u s n p grown timed k.sized k.before.kept (per_is first g clusters u k.eight state_first) k.streams.table k.streams.mirror k.times)
 
-  upper_same : upper_of middle x ≡ upper_of c v
+  upper_same : upper_of middle x ≡ upper_of first u
   upper_same =
       let bytes : SameUpper first middle u = subst (λ (y : Content). SameUpper first y u) edit.1.0.content (values_written.leads first g clusters u n now p q edit.0 sized_first state_first edit.1.1).agrees.upper in
-      upper_by first middle u x refl (elsewhere u n upcase_file q (λ same. k.before.own.apart.upcase (sym same))) bytes ∙ k.index.upper
+      upper_by first middle u x refl (elsewhere u n upcase_file q (λ same. k.before.own.apart.upcase (sym same))) bytes
 
   place_is : index_place u.per q ≡ index_place u.per now
   unfolding index_place index_stream
@@ -135,21 +135,42 @@ module _ (times_set : TimesAreSet) (c : Content) (g : Geometry) (clusters : ℕ)
   same_nodes : SameNodesIn first middle (index_place u.per now)
   same_nodes = same_place first middle u.per now (same_in first middle u.per (index_stream now) block_same)
 
-  nodes_same : nodes_of (node_of_block middle (index_place u.per q)) ≡ nodes_of (node_of_block c (index_place v.per r))
+  nodes_same : nodes_of (node_of_block middle (index_place u.per q)) ≡ nodes_of (node_of_block first (index_place u.per now))
   nodes_same =
       ap (λ (y : Place). nodes_of (node_of_block middle y)) place_is
       ∙ ap nodes_of (fun_ext (λ i. same_node first middle (index_place u.per now) i same_nodes))
-      ∙ fun_ext (λ i. k.index.nodes i)
 
-  pub keeps : KeepsIndex c v r middle x q
+  pub keeps : KeepsIndex first u now middle x q
   keeps = record {
     upper = upper_same;
-    root = root_written p ∙ same_root is_info now p rewritten root_spares ∙ k.index.root;
+    root = root_written p ∙ same_root is_info now p rewritten root_spares;
     nodes = λ i. ap (λ (f : ℕ → Option (List Raw)). f i) nodes_same;
   }
 
+pub times_keep_grown : TimesAreSet → TimesKeepGrown
+times_keep_grown times_set c g clusters v s n stamp r growths u now grown timed k = keeps times_set c g clusters v s n stamp r growths u now grown timed k
+
+-- an index that stands as one that stands as it stood at first
+pub kept_on : (c d e : Content) (v u w : Volume) (r q z : Record) → KeepsIndex c v r d u q → KeepsIndex d u q e w z → KeepsIndex c v r e w z
+kept_on c d e v u w r q z first later = record {
+  upper = later.upper ∙ first.upper;
+  root = later.root ∙ first.root;
+  nodes = λ i. later.nodes i ∙ first.nodes i;
+}
+
 pub times_keep : TimesAreSet → TimesKeepIndex
-times_keep times_set c g clusters v s n stamp r growths u now grown timed k = keeps times_set c g clusters v s n stamp r growths u now grown timed k
+times_keep times_set c g clusters v s n stamp r growths u now grown timed k =
+    kept_on c (drafted grown c) (drafted timed c) v u (with_record u n (timed_directory stamp now)) r now (timed_directory stamp now) k.index
+    (times_keep_grown times_set c g clusters v s n stamp r growths u now grown timed (record {
+      sized = k.sized;
+      eight = k.eight;
+      before = k.before;
+      streams = k.streams;
+      info = k.info;
+      mirrored_none = k.mirrored_none;
+      kept = k.kept;
+      times = k.times;
+    }))
 
 -- ---- plans
 

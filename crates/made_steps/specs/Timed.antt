@@ -24,6 +24,22 @@ use Rattle.made_trees.specs.Created.{timed_directory}
 use Rattle.made_trees.specs.Grown.{KeepsIndex, HasGrownBefore}
 
 -- The times of a directory with standard information, none of the first four files, are put behind a draft in which its index has grown.
+pub record PutsTimesOver (c : Content) (g : Geometry) (clusters : ℕ) (v : Volume) (s : VolumeStreams) (n stamp : ℕ) (r : Record) (growths : List Growth) (u : Volume) (q : Record) (grown timed : List Touched) : Type 0 where
+  pub sized : HasSizes c
+  pub eight : g.per_cluster ≡ 8
+  pub before : HasGrownBefore c g clusters v n r growths u q grown
+  pub streams : AreStreamsOf u s
+  pub info : has_type standard_information q ≡ true
+  pub mirrored_none : 4 ≤ n
+  pub kept : IsKept timed
+  pub times : PutsTimes c s n stamp q grown timed
+
+-- Then the index stands as it stood in the grown draft, whatever it was at first.
+abbrev pub TimesKeepGrown : Type 0
+TimesKeepGrown = (c : Content) (g : Geometry) (clusters : ℕ) (v : Volume) (s : VolumeStreams) (n stamp : ℕ) (r : Record) (growths : List Growth) (u : Volume) (q : Record) (grown timed : List Touched) → PutsTimesOver c g clusters v s n stamp r growths u q grown timed
+    → KeepsIndex (drafted grown c) u q (drafted timed c) (with_record u n (timed_directory stamp q)) (timed_directory stamp q)
+
+-- The times are put so, and the index stands in the grown draft as it stood at first.
 pub record PutsTimesBehind (c : Content) (g : Geometry) (clusters : ℕ) (v : Volume) (s : VolumeStreams) (n stamp : ℕ) (r : Record) (growths : List Growth) (u : Volume) (q : Record) (grown timed : List Touched) : Type 0 where
   pub sized : HasSizes c
   pub eight : g.per_cluster ≡ 8

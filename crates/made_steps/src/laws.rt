@@ -2,7 +2,7 @@
 ghost use Rattle.made_steps.specs.Behind.{MadeBehindAreSteps, RisesWhereNeeded};
 ghost use Rattle.made_steps.specs.Refused.{NotMadeIsStep};
 ghost use Rattle.made_steps.specs.Steps.{MadeFilesAreSteps};
-ghost use Rattle.made_steps.specs.Timed.{IndexesMove, TimesKeepIndex};
+ghost use Rattle.made_steps.specs.Timed.{IndexesMove, TimesKeepGrown, TimesKeepIndex};
 
 use made_trees::{found_is_there, makings_are_steps, new_file_reads, times_are_set};
 
@@ -47,6 +47,14 @@ pub fn rises_where_needed()
 /// stands as it stood at first.
 pub fn times_keep_index()
     ensures { TimesKeepIndex }
+{
+    times_are_set();
+}
+
+/// Law: where a draft has put the times of a directory behind a draft in which its index has grown,
+/// the index stands as it stood in that one.
+pub fn times_keep_grown()
+    ensures { TimesKeepGrown }
 {
     times_are_set();
 }

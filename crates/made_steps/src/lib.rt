@@ -7,5 +7,5 @@ mod laws;
 
 pub use laws::{
     indexes_move, made_behind_are_steps, made_files_are_steps, not_made_is_step,
-    rises_where_needed, times_keep_index,
+    rises_where_needed, times_keep_grown, times_keep_index,
 };
