@@ -1,10 +1,10 @@
 -- A node with room takes no block of its own, so a key takes as many blocks behind a level more as without it.
-use Rattle.std.proofs.Common.{◌≡◌, inl, inr, ℕ, ◌+◌, ◌<◌, ◌≤◌, Bool, true, false, cond, List, length, insert, drop, Option, Some, None, refl, sym, ap, ◌∙◌, arith, length-drop}
+use Rattle.std.proofs.Common.{◌≡◌, inl, inr, ℕ, ◌+◌, ◌<◌, ◌≤◌, Bool, true, false, cond, List, length, insert, drop, Option, Some, None, Ok, refl, sym, ap, ◌∙◌, arith, length-drop}
 use Rattle.std.specs.Prelude.{nat_lt, if◌then◌else◌}
-use Rattle.std.proofs.lemmas.Bool.{cases_Bool, cases_lt, lt-ltb, both_ways}
+use Rattle.std.proofs.lemmas.Bool.{cases_Bool, cases_lt, le-ltb, lt-ltb, both_ways}
 use Rattle.std.proofs.lemmas.List.{length-take-le, length-take}
 use Rattle.record_model.specs.declared.entry.Entry.{Entry as Raw}
-use Rattle.record_model.specs.Nodes.{entry_length, node_used, node_room}
+use Rattle.record_model.specs.Nodes.{entry_length, entries_length, node_used, node_room, root_at}
 use Rattle.record_model.specs.Values.{is_file_name}
 use Rattle.index_model.specs.declared.key.Key.{Key}
 use Rattle.index_model.specs.Trees.{Down, raw, raws_of}
@@ -21,11 +21,11 @@ use Rattle.index_change.specs.declared.nodes_plan.NodesPlan.{NodesPlan}
 use Rattle.index_change.specs.NodePlans.{TakesFront}
 use Rattle.index_change.specs.Orders.{goes, link_of}
 use Rattle.index_change.specs.Plans.{root_room, seventeen, needs_level, has_blocks, bytes_more}
-use Rattle.index_change.proofs.Sizing.{short_key}
+use Rattle.index_change.proofs.Sizing.{short_key, tight_record}
 use Rattle.index_change.proofs.Tightening.{tight_if_higher}
 use Rattle.node_spreads.proofs.Raising.{start_by, roots_stay}
 use Rattle.node_spreads.proofs.Rising.{way_sized, way_short}
-use Rattle.raised_steps.specs.Takes.{NeverNeedsLevel, TakesAlike}
+use Rattle.raised_steps.specs.Takes.{NeverNeedsLevel, RootsAreLoose, TakesAlike}
 
 -- ---- no level
 
@@ -38,6 +38,24 @@ never_needs_level c p upper value key fresh t lawful h long = elim (cases_Bool (
   | inl up ↦ (let crowded : 1024 < 0 + bytes_more key t = tight_if_higher c p upper value 0 fresh h.entries t h.root_read h long key lawful up in let few = few_more key (has_blocks t) lawful in absurd (omega (arith, crowded, few)))
   | inr flat ↦ flat
 ]
+
+-- ---- a root as a node
+
+root_inside : (value : List ℕ) (root : List Raw) → root_at value ≡ Ok root → entries_length root + 1024 ≤ root_room 0 value
+root_inside value root read = elim (cases_lt (root_room 0 value) (entries_length root + 1024)) [
+  | inl over ↦ (let high = tight_record 0 1024 value root read over in absurd (omega (arith, high)))
+  | inr inside ↦ inside
+]
+
+loose_if : (raws : List Raw) → entries_length raws ≤ 3432 → is_tight raws ≡ false
+unfolding is_tight node_used
+loose_if raws low = le-ltb node_room (node_used raws + 600) (omega (arith, low))
+
+pub roots_are_loose : RootsAreLoose
+unfolding root_room
+roots_are_loose c p upper value t h small =
+    let inside = root_inside value (raws_of t) (h.root_read ∙ ap (λ (l : List Raw). Ok l) h.is_index.root_is) in
+    loose_if (raws_of t) (omega (arith, inside, small))
 
 -- ---- a node with room
 

@@ -21,3 +21,7 @@ abbrev pub TakesAlike : Type 0
 TakesAlike = (c d : Content) (p q : Place) (upper value raised : List ℕ) (used given : ℕ) (key : Key) (fresh : List ℕ) (f : ℕ) (t : Tree) (n m : NodesPlan) → is_file_name key.value ≡ true → HoldsIndex d q upper raised (Down f t) → is_tight (raws_of t) ≡ false → 17 ≤ length fresh
     → NewNodes c p upper value used key fresh t n → TakesFront fresh n → needs_level upper (root_room used value) key (seventeen fresh) t ≡ false → NewNodes d q upper raised given key fresh (Down f t) m → TakesFront fresh m
     → length n.taken.items ≡ length m.taken.items
+
+-- The entries of a root that lies in a file record have 600 free bytes as those of a block.
+abbrev pub RootsAreLoose : Type 0
+RootsAreLoose = (c : Content) (p : Place) (upper value : List ℕ) (t : Tree) → HoldsIndex c p upper value t → length value ≤ 1024 → is_tight (raws_of t) ≡ false

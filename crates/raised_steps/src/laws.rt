@@ -1,7 +1,7 @@
 //! The laws of these definitions.
 ghost use Rattle.raised_steps.specs.Rises.{RisesWhereFull};
 ghost use Rattle.raised_steps.specs.Steps.{RaisedAreSteps};
-ghost use Rattle.raised_steps.specs.Takes.{NeverNeedsLevel, TakesAlike};
+ghost use Rattle.raised_steps.specs.Takes.{NeverNeedsLevel, RootsAreLoose, TakesAlike};
 
 use made_trees::{found_is_there, makings_are_steps, new_file_reads, times_are_set};
 
@@ -30,4 +30,9 @@ pub fn never_needs_level()
 /// Law: a key takes as many blocks in an index that got a level before as in one that needs none.
 pub fn takes_alike()
     ensures { TakesAlike }
+{}
+
+/// Law: the entries of a root that lies in a file record have 600 free bytes as those of a block.
+pub fn roots_are_loose()
+    ensures { RootsAreLoose }
 {}

@@ -5,4 +5,6 @@
 
 mod laws;
 
-pub use laws::{never_needs_level, raised_are_steps, rises_where_full, takes_alike};
+pub use laws::{
+    never_needs_level, raised_are_steps, rises_where_full, roots_are_loose, takes_alike,
+};
