@@ -77,10 +77,10 @@ pub in_place : (o : Option Content) (bits : List Bool) (s : VolumeStreams) (numb
 in_place None bits s numbers upper m r nodes old mid new info quiet same plans put = tt
 in_place (Some c) bits s numbers upper m r nodes old mid new info quiet same plans put = record { info = info; quiet = quiet; nodes = nodes; plans = plans; put = subst (λ (l : List Touched). PutsNodes c bits s numbers m r nodes l new) same put }
 
-pub place_full : (o : Option Content) (bits : List Bool) (upper : List ℕ) (m : NewFile) (r : Record) (nodes : NodesPlan) (old : List Touched) (used : ℕ) → 0 < length nodes.taken.items → IsTooFull bits r (0x20 + entries_length nodes.root) (length nodes.taken.items) used → IfSome o (λ c. PlansPlace c upper m r old nodes)
+pub place_full : (o : Option Content) (bits : List Bool) (upper : List ℕ) (m : NewFile) (r : Record) (nodes : NodesPlan) (old : List Touched) (used : ℕ) → has_type standard_information r ≡ true → IsQuiet r → 0 < length nodes.taken.items → IsTooFull bits r (0x20 + entries_length nodes.root) (length nodes.taken.items) used → IfSome o (λ c. PlansPlace c upper m r old nodes)
     → IfSome o (λ c. IsPlaceFull c bits upper m r old used)
-place_full None bits upper m r nodes old used some full plans = tt
-place_full (Some c) bits upper m r nodes old used some full plans = record { nodes = nodes; plans = plans; takes = some; full = full }
+place_full None bits upper m r nodes old used info quiet some full plans = tt
+place_full (Some c) bits upper m r nodes old used info quiet some full plans = record { info = info; quiet = quiet; nodes = nodes; plans = plans; takes = some; full = full }
 
 -- ---- below a result
 

@@ -77,8 +77,11 @@ pub record PutsInPlace (c : Content) (bits : List Bool) (s : VolumeStreams) (num
   pub plans : PlansPlace c upper m r old nodes
   pub put : PutsNodes c bits s numbers m r nodes old new
 
--- With the blocks that the planned nodes take, by the count of a step the directory's record would have so many used bytes, which are too many.
+-- With the blocks that the planned nodes take, by the count of a step the directory's record would have so many used bytes, which are too many. The
+-- directory has standard information, and its index is quiet.
 pub record IsPlaceFull (c : Content) (bits : List Bool) (upper : List ℕ) (m : NewFile) (r : Record) (old : List Touched) (used : ℕ) : Type 0 where
+  pub info : has_type standard_information r ≡ true
+  pub quiet : IsQuiet r
   pub nodes : NodesPlan
   pub plans : PlansPlace c upper m r old nodes
   pub takes : 0 < length nodes.taken.items

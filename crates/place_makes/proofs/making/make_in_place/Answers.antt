@@ -12,7 +12,7 @@ returns-clause-put g c =
 pub returns-clause-full : goal.returns-clause-full
 returns-clause-full g c =
     if_full c.put_nodes.result _ _
-    (λ used full. place_full (g.V.View.content c.args.draft.now.view.now) (g.B.FreeBits.bits c.args.bits.now) c.args.up.now c.args.made.now c.args.file.now c.in_ok-nodes.nodes c.args.draft.now.touched.items used full.0 full.1 c.in_ok-nodes.ensures.plans) c.put_nodes.ensures.full
+    (λ used full. place_full (g.V.View.content c.args.draft.now.view.now) (g.B.FreeBits.bits c.args.bits.now) c.args.up.now c.args.made.now c.args.file.now c.in_ok-nodes.nodes c.args.draft.now.touched.items used (sym c.has_type.ensures.value ∙ c.if-not-has_type.false) (c.in_ok-is_quiet.ensures c.if-not-branch.false) full.0 full.1 c.in_ok-nodes.ensures.plans) c.put_nodes.ensures.full
 
 pub returns-clause-stays : goal.returns-clause-stays
 returns-clause-stays g c =

@@ -1,0 +1,10 @@
+pub mod Topping
+pub mod Pieces
+pub mod Roots
+pub mod Spare
+pub mod Counting
+pub mod Spreading
+pub mod Finding
+pub mod Full
+pub mod Raising
+pub mod Deep

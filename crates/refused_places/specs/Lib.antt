@@ -1,0 +1,2 @@
+pub mod Topped
+pub mod Refused
