@@ -103,8 +103,8 @@ fn has_room_for(wanted: u64, extents: &Extents) -> bool
     0 < wanted && wanted <= CLUSTER_LIMIT - total && wanted <= MOST_RUNS - runs
 }
 
-// Whether the index may get so many blocks in a draft, for which some clusters come.
-fn may_grow_blocks(clusters: u64, more: u64, index: &IndexBlocks) -> bool
+/// Whether the index may get so many blocks in a draft, for which some clusters come.
+pub fn may_grow_blocks(clusters: u64, more: u64, index: &IndexBlocks) -> bool
     requires clusters { clusters ≤ cluster_limit }
     requires number { index.now.number < 2 ^ 48 }
     requires fits { FitsButRoom index.now.file }
@@ -155,8 +155,9 @@ fn put_grown<V: View, B: FreeBits>(
     Ok(written(alloc, &grown.file)?)
 }
 
-// Whether the index may get so many blocks, counted as a step does.
-fn may_count(
+/// Whether the index may get so many blocks, counted as a step does. The error is want of memory. It
+/// takes time linear in the record and its runs.
+pub fn may_count(
     alloc: Global,
     clusters: u64,
     number: u64,

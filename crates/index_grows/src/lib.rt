@@ -13,7 +13,9 @@ mod fault;
 mod growing;
 mod streams;
 
+pub use counting::count;
 pub use draft_indexes::{Draft, FreeBits, View};
 pub use fault::IndexFault;
 pub use file_puts::{FileRec, VolumeStreams};
-pub use growing::grow_as_counted;
+pub use growing::{grow_as_counted, may_count, may_grow_blocks};
+pub use streams::index_blocks;

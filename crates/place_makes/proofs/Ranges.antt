@@ -65,7 +65,7 @@ number_there : (r : Record) (w : ℕ) → number_of (index_place 8 r) w ≡ w
 unfolding index_place
 number_there r w = number_one 8 (stream_blocks 8 (index_stream r)) w refl
 
-lie : (r : Record) (n : ℕ) → length (index_place 8 r).blocks ≤ n → LieBehind 8 r (range_with_len n 17)
+pub lie : (r : Record) (n : ℕ) → length (index_place 8 r).blocks ≤ n → LieBehind 8 r (range_with_len n 17)
 lie r n long =
     record {
       enough = omega arith;

@@ -65,8 +65,12 @@ fn put_planned<V: View>(
     }
 }
 
-// Puts the file with these nodes, where the directory's index lies as this record says.
-fn put_made<V: View>(
+/// Puts the file with these nodes, where the directory's index lies as this record says.
+///
+/// - [`PlaceFault::Unplanned`]: the record has no root, or no room.
+/// - [`PlaceFault::Fault`]: the view failed, and counts it.
+/// - [`PlaceFault::Memory`]: want of memory.
+pub fn put_made<V: View>(
     draft: &mut Draft<'_, V>,
     alloc: Global,
     per: ClusterSize,
@@ -194,8 +198,8 @@ fn put_nodes<V: View, B: FreeBits>(
     )
 }
 
-// The place of an index, with the used bytes of this record.
-fn with_used(found: DirPlace, file: &FileRec) -> DirPlace
+/// The place of an index, with the used bytes of this record.
+pub fn with_used(found: DirPlace, file: &FileRec) -> DirPlace
     requires { FitsButRoom file.now }
     ensures place { place_of result ≡ place_of found }
     ensures root { result.root ≡ found.root }

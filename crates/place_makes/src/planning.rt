@@ -65,6 +65,10 @@ fn entry_of(alloc: Global, made: &NewFile) -> Result<Entry, AllocError>
 }
 
 /// The nodes of the index that lies there with the entry of the new file; the VCNs may be taken.
+///
+/// - [`PlaceFault::Unplanned`]: what was read is part of no state.
+/// - [`PlaceFault::Fault`]: the view failed, and counts it.
+/// - [`PlaceFault::Memory`]: want of memory.
 pub fn planned<V: View>(
     draft: &mut Draft<'_, V>,
     alloc: Global,

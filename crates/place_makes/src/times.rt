@@ -57,6 +57,10 @@ fn put_timed<V: View>(
 }
 
 /// Puts a record with its times, and answers it as it is written.
+///
+/// - [`PlaceFault::Unplanned`]: the record has no room.
+/// - [`PlaceFault::Fault`]: the view failed, and counts it.
+/// - [`PlaceFault::Memory`]: want of memory.
 pub fn put_times<V: View>(
     draft: &mut Draft<'_, V>,
     alloc: Global,
