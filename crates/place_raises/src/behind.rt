@@ -45,7 +45,8 @@ fn plan_behind<V: View>(
     Ok(planned(draft, alloc, up, &dir, made, fresh)?)
 }
 
-// Puts the file into the index of the directory with this record, with nodes that are planned there.
+// Puts the file into the index of the directory with this record, with nodes that are planned
+// there.
 fn put_planned<V: View>(
     draft: &mut Draft<'_, V>,
     alloc: Global,

@@ -1,8 +1,7 @@
 //! A level more below the root of an index, as it is written.
-ghost use Rattle.std.specs.Prelude.{◌≡◌, ◌<◌, ◌≤◌, ℕ, [], ◌∷◌, Ok, Some, IfErr, IfOk, IfSome, length};
+ghost use Rattle.std.specs.Prelude.{◌≡◌, [], ◌∷◌, Ok, Some, IfErr, IfOk, IfSome, length};
 ghost use Rattle.block_view.specs.Views.{AsksView};
 ghost use Rattle.record_model.specs.Nodes.{last_entry, node_spelling, root_at};
-ghost use Rattle.record_model.specs.Records.{Record};
 ghost use Rattle.index_model.specs.Indexes.{node_of_block};
 ghost use Rattle.index_node.specs.Roots.{root_spelling, new_node, HaveSpelling};
 ghost use Rattle.index_tree.specs.Places.{place_of};

@@ -1,5 +1,5 @@
 //! A file that is made in its place below a level more of its directory's index.
-ghost use Rattle.std.specs.Prelude.{◌≡◌, ◌+◌, ◌<◌, ◌≤◌, ◌^◌, IfErr, IfOk, IfSome, OnOk, length};
+ghost use Rattle.std.specs.Prelude.{◌≡◌, ◌+◌, ◌<◌, ◌≤◌, ◌^◌, IfErr, IfSome, OnOk, length};
 ghost use Rattle.block_view.specs.Views.{AsksView};
 ghost use Rattle.record_streams.specs.Fitting.{FitsButRoom};
 ghost use Rattle.index_grows.specs.Counted.{IsTooFull};
@@ -73,22 +73,23 @@ fn put_level<V: View, B: FreeBits>(
 }
 
 /// Puts a file that is made in its place below a level more of its directory's index (Linux-NTFS
-/// documentation, "FILE Record", "$STANDARD_INFORMATION", "$INDEX_ROOT", "Index Record", "$Bitmap"):
-/// the blocks that the level and the name take, and with them the root of one entry alone and the
-/// node with the entries that the root had; the times of the directory, whose record is `file` as it
-/// is in the draft; and behind them the file, with nodes that are planned there. So a file is made
-/// where the root has no room beside the longer streams of the index. `up` is the volume's table of
-/// upper-case units, and `numbers` are the clusters of the bitmap of `$MFT`; `bits` are those of the
-/// clusters, and `counted` the same once more, which are of no more use afterwards. The volume has
-/// `per` sectors a cluster.
+/// documentation, "FILE Record", "$STANDARD_INFORMATION", "$INDEX_ROOT", "Index Record",
+/// "$Bitmap"): the blocks that the level and the name take, and with them the root of one entry
+/// alone and the node with the entries that the root had; the times of the directory, whose record
+/// is `file` as it is in the draft; and behind them the file, with nodes that are planned there. So
+/// a file is made where the root has no room beside the longer streams of the index. `up` is the
+/// volume's table of upper-case units, and `numbers` are the clusters of the bitmap of `$MFT`;
+/// `bits` are those of the clusters, and `counted` the same once more, which are of no more use
+/// afterwards. The volume has `per` sectors a cluster.
 ///
-/// - [`RaiseFault::Full`]: by the count of a step the directory's record would use so many bytes with
-///   the blocks that the level and the plan of its nodes take, which are above 1,024; what the draft
-///   has put is as it was.
-/// - [`RaiseFault::Deep`]: the index has so many levels, sixteen; what the draft has put is as it was.
-/// - [`RaiseFault::Unplanned`]: the directory has no standard information; its index has a block that
-///   isn't initialised or hasn't a bit; its index has to get a second level, or a bitmap in clusters;
-///   or what was read is part of no state.
+/// - [`RaiseFault::Full`]: by the count of a step the directory's record would use so many bytes
+///   with the blocks that the level and the plan of its nodes take, which are above 1,024; what the
+///   draft has put is as it was.
+/// - [`RaiseFault::Deep`]: the index has so many levels, sixteen; what the draft has put is as it
+///   was.
+/// - [`RaiseFault::Unplanned`]: the directory has no standard information; its index has a block
+///   that isn't initialised or hasn't a bit; its index has to get a second level, or a bitmap in
+///   clusters; or what was read is part of no state.
 /// - [`RaiseFault::Fault`]: the view failed, and counts it.
 /// - [`RaiseFault::Memory`]: want of memory.
 ///

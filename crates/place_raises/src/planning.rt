@@ -2,10 +2,8 @@
 ghost use Rattle.std.specs.Prelude.{◌≡◌, ◌+◌, ◌<◌, ◌≤◌, ◌^◌, Ok, Some, IfErr, IfOk, IfSome, length};
 ghost use Rattle.block_view.specs.Views.{AsksView};
 ghost use Rattle.index_tree.specs.Places.{place_of};
-ghost use Rattle.index_change.specs.NodePlans.{PlansNodes, TakesFront};
 ghost use Rattle.volume_model.specs.Indexes.{index_place, root_value};
-ghost use Rattle.plan_draft.specs.Drafts.{drafted};
-ghost use Rattle.made_trees.specs.made_files.Made.{made_key};
+
 ghost use Rattle.place_raises.specs.Faults.{raise_cause, OnDeep, OnFull};
 ghost use Rattle.place_raises.specs.Raising.{CountsNodes, IsDeep, LieBehindLevel, PlansLevel, level_vcn};
 
@@ -23,7 +21,8 @@ use upcase_order::Upcase;
 // An index has fewer blocks than these.
 const MOST_BLOCKS: u64 = 1 << 61;
 
-/// A level more, with the VCN of its node, the VCNs that the nodes below it may take, and these nodes.
+/// A level more, with the VCN of its node, the VCNs that the nodes below it may take, and these
+/// nodes.
 #[derive(Drop)]
 pub struct LevelPlan {
     pub level: Level,
@@ -42,7 +41,8 @@ fn vcns_behind(alloc: Global, file: &FileRec, first: u64) -> Result<Vec<u64>, Al
     Ok(vcns_from(alloc, first + 1)?)
 }
 
-// The nodes of the index that lies there, planned with the new file as if no byte of the record were used.
+// The nodes of the index that lies there, planned with the new file as if no byte of the record
+// were used.
 fn count_nodes<V: View>(
     draft: &mut Draft<'_, V>,
     alloc: Global,
@@ -109,12 +109,12 @@ fn plan_there<V: View>(
     })
 }
 
-/// A level more of a directory's index, and the nodes below it, planned with the new file; the nodes
-/// are those of the index as it is.
+/// A level more of a directory's index, and the nodes below it, planned with the new file; the
+/// nodes are those of the index as it is.
 ///
 /// - [`RaiseFault::Deep`]: the index has so many levels, sixteen.
-/// - [`RaiseFault::Unplanned`]: the root's entries have no room in a block, or what was read is part
-///   of no state.
+/// - [`RaiseFault::Unplanned`]: the root's entries have no room in a block, or what was read is
+///   part of no state.
 /// - [`RaiseFault::Fault`]: the view failed, and counts it.
 /// - [`RaiseFault::Memory`]: want of memory.
 pub fn plan_level<V: View>(

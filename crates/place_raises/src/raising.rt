@@ -127,16 +127,16 @@ fn raise_counted<V: View, B: FreeBits>(
 
 /// Gives a directory's index so many blocks more in a draft, and with them a level, of which the
 /// node goes into the first block that comes, as a step of the volume counts them (Linux-NTFS
-/// documentation, "$INDEX_ROOT", "$INDEX_ALLOCATION", "$BITMAP"): what [`raise_blocks`] puts, of the
-/// directory of this number, whose record is `file`. `first` is how many blocks the index has;
+/// documentation, "$INDEX_ROOT", "$INDEX_ALLOCATION", "$BITMAP"): what [`raise_blocks`] puts, of
+/// the directory of this number, whose record is `file`. `first` is how many blocks the index has;
 /// `bits` are those of the clusters, and `counted` the same once more, which are of no more use
 /// afterwards. The volume has 8 sectors a cluster. The answer is the directory's record as it is
 /// written.
 ///
 /// - [`RaiseFault::Full`]: by the count of a step the record would use so many bytes, which are
 ///   above 1,024; the draft is as it was.
-/// - [`RaiseFault::Unplanned`]: the bitmap stands in clusters or has to leave the record; the blocks
-///   take no cluster; or what was read is part of no state.
+/// - [`RaiseFault::Unplanned`]: the bitmap stands in clusters or has to leave the record; the
+///   blocks take no cluster; or what was read is part of no state.
 /// - [`RaiseFault::Fault`]: the view failed, and counts it.
 /// - [`RaiseFault::Memory`]: want of memory.
 ///
