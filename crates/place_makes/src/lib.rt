@@ -18,6 +18,7 @@ mod vcns;
 
 pub use fault::PlaceFault;
 pub use file_makes::{Draft, FileRec, NewFile, View, VolumeStreams};
+pub use found_places::{places_are_there, places_take_steps};
 pub use index_grows::FreeBits;
 pub use making::{make_in_place, put_made, with_used};
 pub use planning::planned;

@@ -15,7 +15,7 @@ use Rattle.index_change.proofs.Tall.{root_raws, index_height}
 use Rattle.volume_model.specs.Indexes.{index_place, root_value}
 use Rattle.plan_draft.specs.declared.touched.Touched.{Touched}
 use Rattle.plan_draft.specs.Drafts.{drafted}
-use Rattle.found_places.specs.Places.{LieBehind}
+use Rattle.place_makes.specs.found_places.Places.{LieBehind}
 use Rattle.index_edits.specs.Levels.{LevelsAreRead}
 use Rattle.place_makes.proofs.Ranges.{lie}
 use Rattle.place_raises.specs.Raising.{IsLevel, IsDeep, LieBehindLevel, level_vcn}

@@ -27,7 +27,7 @@ use Rattle.made_trees.specs.made_files.Made.{made_key}
 use Rattle.made_trees.specs.Created.{timed_directory}
 use Rattle.index_edits.specs.Grown.{HasStreams}
 use Rattle.index_edits.specs.Raised.{first_fresh}
-use Rattle.index_grows.specs.Counted.{file_with_streams, CountsOf, IsTooFull}
+use Rattle.place_makes.specs.index_grows.Counted.{file_with_streams, CountsOf, IsTooFull}
 use Rattle.place_makes.specs.Placing.{IsQuiet, PutsMadeIn}
 use Rattle.place_raises.specs.declared.fault.RaiseFault.{RaiseFault}
 use Rattle.place_raises.specs.declared.fault.RaiseFault.TheVariants.{Deep, Fault, Full, Memory, Unplanned}

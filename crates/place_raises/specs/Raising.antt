@@ -27,10 +27,10 @@ use Rattle.made_trees.specs.file_puts.Puts.{PutsTimes}
 use Rattle.made_trees.specs.file_makes.declared.newfile.NewFile.{NewFile}
 use Rattle.made_trees.specs.made_files.Made.{made_key}
 use Rattle.made_trees.specs.Created.{timed_directory}
-use Rattle.found_places.specs.Places.{LieBehind}
+use Rattle.place_makes.specs.found_places.Places.{LieBehind}
 use Rattle.index_edits.specs.Grown.{HasStreams}
 use Rattle.index_edits.specs.Raised.{first_fresh}
-use Rattle.index_grows.specs.Counted.{file_with_streams, CountsOf, IsTooFull}
+use Rattle.place_makes.specs.index_grows.Counted.{file_with_streams, CountsOf, IsTooFull}
 use Rattle.place_makes.specs.Placing.{IsQuiet, PutsMadeIn}
 
 -- the VCN of the first block that comes, which is behind all blocks of the directory's index

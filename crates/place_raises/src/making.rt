@@ -2,7 +2,7 @@
 ghost use Rattle.std.specs.Prelude.{◌≡◌, ◌+◌, ◌<◌, ◌≤◌, ◌^◌, IfErr, IfSome, OnOk, length};
 ghost use Rattle.block_view.specs.Views.{AsksView};
 ghost use Rattle.record_streams.specs.Fitting.{FitsButRoom};
-ghost use Rattle.index_grows.specs.Counted.{IsTooFull};
+ghost use Rattle.place_makes.specs.index_grows.Counted.{IsTooFull};
 ghost use Rattle.place_raises.specs.Faults.{raise_cause, OnDeep, OnFull};
 ghost use Rattle.place_raises.specs.Raising.{IsDeep, IsRaisedFull, PutsLevel, PutsRaised, level_vcn};
 

@@ -3,7 +3,6 @@ ghost use Rattle.std.specs.Prelude.{◌≡◌, ◌+◌, ◌<◌, ◌≤◌, ◌^
 ghost use Rattle.block_view.specs.Views.{AsksView};
 ghost use Rattle.index_tree.specs.Places.{place_of};
 ghost use Rattle.volume_model.specs.Indexes.{index_place, root_value};
-
 ghost use Rattle.place_raises.specs.Faults.{raise_cause, OnDeep, OnFull};
 ghost use Rattle.place_raises.specs.Raising.{CountsNodes, IsDeep, LieBehindLevel, PlansLevel, level_vcn};
 

@@ -8,7 +8,7 @@ ghost use Rattle.record_streams.specs.Fitting.{FitsButRoom};
 ghost use Rattle.draft_records.specs.Records.{written_record};
 ghost use Rattle.draft_indexes.specs.Growing.{MayGrowBlocks};
 ghost use Rattle.made_index.specs.Growing.{MayGrow};
-ghost use Rattle.index_grows.specs.Counted.{CountsOf, IsTooFull};
+ghost use Rattle.place_makes.specs.index_grows.Counted.{CountsOf, IsTooFull};
 ghost use Rattle.place_raises.specs.Faults.{raise_cause, OnDeep, OnFull};
 ghost use Rattle.place_raises.specs.Raising.{RaisesCounted, RaisesInto, level_vcn};
 

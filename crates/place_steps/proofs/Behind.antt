@@ -56,8 +56,8 @@ use Rattle.made_trees.proofs.written_values.plan_edits.Recording.{record_edit}
 use Rattle.made_trees.proofs.written_values.Joining.{Reaches, goes_behind, puts_record}
 use Rattle.made_trees.proofs.written_values.Sparing.{elsewhere}
 use Rattle.made_trees.specs.change_steps.plan_changes.Going.{StandsAs}
-use Rattle.found_places.proofs.Numbers.{number_clear}
-use Rattle.found_places.proofs.Timed.{normal_twice}
+use Rattle.place_makes.proofs.found_places.Numbers.{number_clear}
+use Rattle.place_makes.proofs.found_places.Timed.{normal_twice}
 
 -- ---- the streams of a volume with one record more
 

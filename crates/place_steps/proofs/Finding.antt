@@ -16,9 +16,9 @@ use Rattle.made_trees.proofs.written_values.Joining.{nothing_put}
 use Rattle.made_trees.specs.file_puts.declared.streams.VolumeStreams.{VolumeStreams}
 use Rattle.made_trees.specs.file_makes.declared.newfile.NewFile.{NewFile}
 use Rattle.made_trees.specs.made_files.Made.{made_key}
-use Rattle.found_places.specs.Places.{HasPlace, HasNames, LieBehind}
-use Rattle.found_places.specs.Laws.{PlacesAreThere}
-use Rattle.index_grows.specs.Growing.{GrowsCounted}
+use Rattle.place_makes.specs.found_places.Places.{HasPlace, HasNames, LieBehind}
+use Rattle.place_makes.specs.found_places.Laws.{PlacesAreThere}
+use Rattle.place_makes.specs.index_grows.Growing.{GrowsCounted}
 use Rattle.place_makes.specs.Placing.{HasBlocksFor}
 use Rattle.place_steps.specs.Steps.{MakesInPlace}
 

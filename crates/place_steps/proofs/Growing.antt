@@ -82,13 +82,13 @@ use Rattle.made_steps.specs.Timed.{TimesKeepIndex, IndexesMove}
 use Rattle.grown_indexes.specs.First.{growths_by}
 use Rattle.grown_indexes.specs.Put.{PutGrowsFirst}
 use Rattle.grown_indexes.specs.Steps.{PutsAsCounted, CountsAmongAll}
-use Rattle.found_places.specs.Steady.{HasBlocks}
-use Rattle.found_places.specs.Places.{HasPlace, HasNames, LieBehind}
-use Rattle.found_places.specs.Laws.{PlacesAreThere, PlacesTakeSteps}
-use Rattle.found_places.proofs.Rooted.{root_length}
-use Rattle.found_places.proofs.Vcns.{once_behind, real_there}
-use Rattle.index_grows.specs.Counted.{CountsFor}
-use Rattle.index_grows.specs.Growing.{GrowsCounted}
+use Rattle.place_makes.specs.found_places.Steady.{HasBlocks}
+use Rattle.place_makes.specs.found_places.Places.{HasPlace, HasNames, LieBehind}
+use Rattle.place_makes.specs.found_places.Laws.{PlacesAreThere, PlacesTakeSteps}
+use Rattle.place_makes.proofs.found_places.Rooted.{root_length}
+use Rattle.place_makes.proofs.found_places.Vcns.{once_behind, real_there}
+use Rattle.place_makes.specs.index_grows.Counted.{CountsFor}
+use Rattle.place_makes.specs.index_grows.Growing.{GrowsCounted}
 use Rattle.directory_growth.specs.Growing.{root_bytes}
 use Rattle.resized_streams.proofs.Chosen.{total_chosen}
 use Rattle.stream_runs.specs.Runs.{last_cluster}
@@ -96,7 +96,7 @@ use Rattle.written_clusters.proofs.Taking.{length-cluster_bits}
 use Rattle.place_steps.specs.Steps.{MakesInPlace, PlacesAreSteps}
 use Rattle.place_steps.proofs.Quiet.{quiet_step}
 use Rattle.place_steps.proofs.Finding as finding
-use Rattle.found_places.proofs.Found as found
+use Rattle.place_makes.proofs.found_places.Found as found
 use Rattle.place_steps.proofs.Behind as behind
 
 -- ---- the blocks before

@@ -24,8 +24,8 @@ use Rattle.made_trees.specs.made_files.Made.{made_key}
 use Rattle.made_trees.specs.Created.{timed_directory, timed_volume}
 use Rattle.made_trees.specs.Grown.{KeepsIndex}
 use Rattle.made_steps.specs.Timed.{IndexesMove}
-use Rattle.found_places.specs.Places.{PutsDirectory, HasTimes, PutsFlat, LieBehind}
-use Rattle.found_places.specs.Laws.{PlacesAreThere, PlacesTakeSteps}
+use Rattle.place_makes.specs.found_places.Places.{PutsDirectory, HasTimes, PutsFlat, LieBehind}
+use Rattle.place_makes.specs.found_places.Laws.{PlacesAreThere, PlacesTakeSteps}
 use Rattle.place_makes.specs.Placing.{PutsTimed}
 use Rattle.place_steps.specs.Steps.{MakesInPlace}
 use Rattle.place_steps.proofs.Finding.{same_value, none_come, eight, place, planned, lie}

@@ -17,7 +17,7 @@ use Rattle.made_trees.specs.file_puts.declared.streams.VolumeStreams.{VolumeStre
 use Rattle.made_trees.specs.file_puts.Written.{AreStreamsOf}
 use Rattle.made_trees.specs.file_makes.declared.newfile.NewFile.{NewFile}
 use Rattle.made_trees.specs.made_files.Made.{HasNumbers}
-use Rattle.found_places.specs.Places.{IsFoundPlace}
+use Rattle.place_makes.specs.found_places.Places.{IsFoundPlace}
 use Rattle.place_makes.specs.Placing.{PutsInPlace}
 
 -- An operation was found to make this file in this directory, of which this is the record. A draft that touched nothing has put it in its place, with the

@@ -25,7 +25,7 @@ use Rattle.made_trees.specs.step_model.Streams.{Changed, index_comes}
 use Rattle.made_trees.specs.step_model.Placing.{Growth, taken_runs}
 use Rattle.made_trees.specs.step_model.Plans.{bits_left, full_row, grows_table, spread_comes, spread_used, table_change, table_in}
 use Rattle.directory_growth.specs.Growing.{root_bytes}
-use Rattle.index_grows.specs.Counted.{IsTooFull}
+use Rattle.place_makes.specs.index_grows.Counted.{IsTooFull}
 use Rattle.refused_places.specs.Refused.{more_bytes}
 
 -- ---- a row

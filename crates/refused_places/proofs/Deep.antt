@@ -23,7 +23,7 @@ use Rattle.made_trees.specs.step_model.Spreads.{IsSpread}
 use Rattle.made_trees.specs.step_model.Steps.{Step}
 use Rattle.made_steps.specs.Behind.{MayRise, RisesWhereNeeded}
 use Rattle.made_steps.specs.Refused.{NotMadeIsStep}
-use Rattle.found_places.specs.Laws.{PlacesAreThere}
+use Rattle.place_makes.specs.found_places.Laws.{PlacesAreThere}
 use Rattle.refused_places.specs.Refused.{HasNoneFree, RefusesInPlace, DeepPlacesAreSteps}
 use Rattle.refused_places.proofs.Finding as finding
 use Rattle.refused_places.proofs.Full as full

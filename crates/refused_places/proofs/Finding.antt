@@ -31,9 +31,9 @@ use Rattle.made_trees.specs.step_model.Spreads.{IsKeyOf}
 use Rattle.made_trees.proofs.plan_model.Drafting.{per_is}
 use Rattle.made_trees.proofs.written_values.Joining.{nothing_put}
 use Rattle.made_steps.specs.Refused.{FindsDirectory}
-use Rattle.found_places.specs.Places.{HasPlace, HasNames, LieBehind}
-use Rattle.found_places.specs.Laws.{PlacesAreThere}
-use Rattle.found_places.proofs.Vcns.{once_behind}
+use Rattle.place_makes.specs.found_places.Places.{HasPlace, HasNames, LieBehind}
+use Rattle.place_makes.specs.found_places.Laws.{PlacesAreThere}
+use Rattle.place_makes.proofs.found_places.Vcns.{once_behind}
 use Rattle.refused_places.specs.Refused.{FindsPlace}
 use Rattle.refused_places.proofs.Spare.{stays_table}
 use Rattle.refused_places.proofs.Roots.{value_low, root_sized}

@@ -31,7 +31,7 @@ use Rattle.made_trees.specs.step_model.Plans.{spread_used}
 use Rattle.made_trees.specs.step_model.Steps.{Step}
 use Rattle.made_steps.specs.Behind.{MayRise, RisesWhereNeeded}
 use Rattle.made_steps.specs.Refused.{FindsDirectory, PlansKey, NotMadeIsStep}
-use Rattle.found_places.specs.Laws.{PlacesAreThere}
+use Rattle.place_makes.specs.found_places.Laws.{PlacesAreThere}
 use Rattle.refused_places.specs.Refused.{more_bytes, HasFree, HasNoneFree, IsRaisedBy, RefusesInPlace, FullPlacesAreSteps}
 use Rattle.refused_places.proofs.Counting.{counted, more_is}
 use Rattle.refused_places.proofs.Finding as finding

@@ -43,7 +43,7 @@ use Rattle.made_trees.specs.change_steps.Found.{IsPlaceFound, FoundIsThere}
 use Rattle.made_trees.specs.change_steps.Makings.{MakingsAreSteps}
 use Rattle.made_steps.specs.Behind.{MayRise}
 use Rattle.made_steps.specs.Refused.{FindsDirectory}
-use Rattle.found_places.specs.Laws.{PlacesAreThere}
+use Rattle.place_makes.specs.found_places.Laws.{PlacesAreThere}
 use Rattle.directory_growth.specs.Growing.{root_bytes}
 use Rattle.refused_places.specs.Refused.{RefusesRaised, RaisedFullAreSteps}
 use Rattle.refused_places.proofs.Counting.{counted, more_few}

@@ -23,8 +23,8 @@ use Rattle.made_trees.specs.step_model.Steps.{Step}
 use Rattle.made_trees.specs.file_makes.declared.newfile.NewFile.{NewFile}
 use Rattle.made_trees.specs.made_files.Made.{made_key}
 use Rattle.made_steps.specs.Behind.{MayRise}
-use Rattle.found_places.specs.Places.{IsFoundPlace, LieBehind}
-use Rattle.index_grows.specs.Counted.{IsTooFull}
+use Rattle.place_makes.specs.found_places.Places.{IsFoundPlace, LieBehind}
+use Rattle.place_makes.specs.index_grows.Counted.{IsTooFull}
 use Rattle.place_makes.specs.Placing.{IsPlaceFull}
 
 -- ---- the root

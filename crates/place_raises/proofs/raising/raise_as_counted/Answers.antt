@@ -1,5 +1,5 @@
 use Rattle.std.proofs.Common.{Bool, List, subst}
-use Rattle.index_grows.specs.Counted.{CountsOf}
+use Rattle.place_makes.specs.index_grows.Counted.{CountsOf}
 use Rattle.place_raises.proofs.raising.raise_as_counted.Goals as goal
 
 pub raise_counted-requires-clause-counts : goal.raise_counted-requires-clause-counts
