@@ -1,0 +1,13 @@
+//! A file table that grows first in a plan while that is made, counted as a step counts it.
+#![tactic(auto)]
+
+mod counting;
+mod fault;
+mod growing;
+mod grown;
+
+pub use draft_bitmaps::{Draft, Extents, FileRec, FreeBits, View};
+pub use fault::{CountFault, TableFault};
+pub use file_puts::VolumeStreams;
+pub use growing::grow_table_first;
+pub use grown::TableGrown;

@@ -1,0 +1,5 @@
+pub mod Finding
+pub mod Making
+pub mod Quiet
+pub mod Left
+pub mod Growing
