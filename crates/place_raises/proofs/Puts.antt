@@ -20,11 +20,11 @@ use Rattle.draft_growth.specs.Growing.{space_for}
 use Rattle.draft_indexes.specs.declared.blocks.IndexBlocks.{IndexBlocks}
 use Rattle.draft_indexes.specs.Growing.{wanted_clusters, taken_for, raised_file, MayGrowBlocks, RaisesBlocks}
 use Rattle.resized_streams.specs.declared.resized.Resized.{Resized}
-use Rattle.made_trees.specs.file_puts.declared.streams.VolumeStreams.{VolumeStreams}
-use Rattle.made_trees.specs.file_puts.Puts.{PutsTimes}
-use Rattle.made_trees.specs.file_makes.declared.newfile.NewFile.{NewFile}
-use Rattle.made_trees.specs.made_files.Made.{made_key}
-use Rattle.made_trees.specs.Created.{timed_directory}
+use Rattle.place_makes.specs.made_trees.file_puts.declared.streams.VolumeStreams.{VolumeStreams}
+use Rattle.place_makes.specs.made_trees.file_puts.Puts.{PutsTimes}
+use Rattle.place_makes.specs.made_trees.file_makes.declared.newfile.NewFile.{NewFile}
+use Rattle.place_makes.specs.made_trees.made_files.Made.{made_key}
+use Rattle.place_makes.specs.made_trees.Created.{timed_directory}
 use Rattle.index_edits.specs.Grown.{HasStreams}
 use Rattle.index_edits.specs.Raised.{first_fresh}
 use Rattle.place_makes.specs.index_grows.Counted.{file_with_streams, CountsOf, IsTooFull}

@@ -2,7 +2,7 @@
 ghost use Rattle.std.specs.Prelude.{◌≡◌, ◌<◌, ◌≤◌, ◌^◌, IfErr, IfOk, IfSome, OnOk, length};
 ghost use Rattle.block_view.specs.Views.{AsksView};
 ghost use Rattle.record_streams.specs.Fitting.{FitsButRoom};
-ghost use Rattle.made_trees.specs.file_makes.Making.{HasRoom};
+ghost use Rattle.place_makes.specs.made_trees.file_makes.Making.{HasRoom};
 ghost use Rattle.place_raises.specs.Faults.{raise_cause, OnDeep, OnFull};
 ghost use Rattle.place_raises.specs.Raising.{PlansBehind, PutsBehind, PutsPlanned};
 

@@ -31,31 +31,31 @@ use Rattle.plan_draft.specs.Touching.{bodies_of}
 use Rattle.plan_draft.specs.Drafts.{drafted}
 use Rattle.draft_bits.specs.Effects.{IsKept}
 use Rattle.plan_blocks.specs.Blocks.{RoomDiffers}
-use Rattle.made_trees.specs.plan_model.Attributes.{RewritesValues}
-use Rattle.made_trees.specs.plan_model.Informed.{is_info, with_record, InfoDiffers}
-use Rattle.made_trees.specs.change_steps.plan_values.Values.{WritesValues}
-use Rattle.made_trees.specs.record_times.Times.{timed_record}
-use Rattle.made_trees.specs.record_times.Laws.{TimesAreSet}
-use Rattle.made_trees.specs.file_puts.declared.streams.VolumeStreams.{VolumeStreams}
-use Rattle.made_trees.specs.file_puts.Puts.{PutsTimes}
-use Rattle.made_trees.specs.file_puts.Written.{AreStreamsOf}
-use Rattle.made_trees.specs.change_steps.plan_edits.Moves.{EditsDraft}
-use Rattle.made_trees.specs.change_steps.plan_edits.Records.{PutsRecordOf}
-use Rattle.made_trees.specs.file_makes.declared.newfile.NewFile.{NewFile}
-use Rattle.made_trees.specs.made_files.Made.{HasNumbers, IsParent, IsSpare}
-use Rattle.made_trees.specs.step_model.Placing.{Growth}
-use Rattle.made_trees.specs.step_model.Plans.{grows_table}
-use Rattle.made_trees.specs.Created.{timed_directory, timed_volume}
-use Rattle.made_trees.specs.Grown.{HasGrownBefore}
-use Rattle.made_trees.proofs.plan_model.Drafting.{per_is}
-use Rattle.made_trees.proofs.plan_model.Rewriting.{same_directory}
-use Rattle.made_trees.proofs.plan_values.Valued.{values_written}
-use Rattle.made_trees.proofs.made_files.plan_informed.Informed.{values_edit}
-use Rattle.made_trees.proofs.written_values.plan_changes.Going.{files_going}
-use Rattle.made_trees.proofs.written_values.plan_edits.Recording.{record_edit}
-use Rattle.made_trees.proofs.written_values.Joining.{Reaches, goes_behind, puts_record}
-use Rattle.made_trees.proofs.written_values.Sparing.{elsewhere}
-use Rattle.made_trees.specs.change_steps.plan_changes.Going.{StandsAs}
+use Rattle.place_makes.specs.made_trees.plan_model.Attributes.{RewritesValues}
+use Rattle.place_makes.specs.made_trees.plan_model.Informed.{is_info, with_record, InfoDiffers}
+use Rattle.place_makes.specs.made_trees.change_steps.plan_values.Values.{WritesValues}
+use Rattle.place_makes.specs.made_trees.record_times.Times.{timed_record}
+use Rattle.place_makes.specs.made_trees.record_times.Laws.{TimesAreSet}
+use Rattle.place_makes.specs.made_trees.file_puts.declared.streams.VolumeStreams.{VolumeStreams}
+use Rattle.place_makes.specs.made_trees.file_puts.Puts.{PutsTimes}
+use Rattle.place_makes.specs.made_trees.file_puts.Written.{AreStreamsOf}
+use Rattle.place_makes.specs.made_trees.change_steps.plan_edits.Moves.{EditsDraft}
+use Rattle.place_makes.specs.made_trees.change_steps.plan_edits.Records.{PutsRecordOf}
+use Rattle.place_makes.specs.made_trees.file_makes.declared.newfile.NewFile.{NewFile}
+use Rattle.place_makes.specs.made_trees.made_files.Made.{HasNumbers, IsParent, IsSpare}
+use Rattle.place_makes.specs.made_trees.step_model.Placing.{Growth}
+use Rattle.place_makes.specs.made_trees.step_model.Plans.{grows_table}
+use Rattle.place_makes.specs.made_trees.Created.{timed_directory, timed_volume}
+use Rattle.place_makes.specs.made_trees.Grown.{HasGrownBefore}
+use Rattle.place_makes.proofs.made_trees.plan_model.Drafting.{per_is}
+use Rattle.place_makes.proofs.made_trees.plan_model.Rewriting.{same_directory}
+use Rattle.place_makes.proofs.made_trees.plan_values.Valued.{values_written}
+use Rattle.place_makes.proofs.made_trees.made_files.plan_informed.Informed.{values_edit}
+use Rattle.place_makes.proofs.made_trees.written_values.plan_changes.Going.{files_going}
+use Rattle.place_makes.proofs.made_trees.written_values.plan_edits.Recording.{record_edit}
+use Rattle.place_makes.proofs.made_trees.written_values.Joining.{Reaches, goes_behind, puts_record}
+use Rattle.place_makes.proofs.made_trees.written_values.Sparing.{elsewhere}
+use Rattle.place_makes.specs.made_trees.change_steps.plan_changes.Going.{StandsAs}
 use Rattle.place_makes.proofs.found_places.Numbers.{number_clear}
 use Rattle.place_makes.proofs.found_places.Timed.{normal_twice}
 

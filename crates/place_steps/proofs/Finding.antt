@@ -11,11 +11,11 @@ use Rattle.volume_model.specs.Indexes.{index_place, root_value}
 use Rattle.volume_model.specs.Volumes.{Volume, file_in, upper_of}
 use Rattle.plan_draft.specs.declared.touched.Touched.{Touched}
 use Rattle.plan_draft.specs.Drafts.{drafted}
-use Rattle.made_trees.proofs.plan_model.Drafting.{per_is}
-use Rattle.made_trees.proofs.written_values.Joining.{nothing_put}
-use Rattle.made_trees.specs.file_puts.declared.streams.VolumeStreams.{VolumeStreams}
-use Rattle.made_trees.specs.file_makes.declared.newfile.NewFile.{NewFile}
-use Rattle.made_trees.specs.made_files.Made.{made_key}
+use Rattle.place_makes.proofs.made_trees.plan_model.Drafting.{per_is}
+use Rattle.place_makes.proofs.made_trees.written_values.Joining.{nothing_put}
+use Rattle.place_makes.specs.made_trees.file_puts.declared.streams.VolumeStreams.{VolumeStreams}
+use Rattle.place_makes.specs.made_trees.file_makes.declared.newfile.NewFile.{NewFile}
+use Rattle.place_makes.specs.made_trees.made_files.Made.{made_key}
 use Rattle.place_makes.specs.found_places.Places.{HasPlace, HasNames, LieBehind}
 use Rattle.place_makes.specs.found_places.Laws.{PlacesAreThere}
 use Rattle.place_makes.specs.index_grows.Growing.{GrowsCounted}

@@ -52,30 +52,30 @@ use Rattle.plan_blocks.specs.plan_edits.Moves.{EditsDraft}
 use Rattle.draft_indexes.specs.declared.blocks.IndexBlocks.{IndexBlocks}
 use Rattle.draft_indexes.specs.Growing.{wanted_clusters, taken_for, size_with, grown_file, MayGrowBlocks, GrowsBlocks}
 use Rattle.index_edits.specs.Grown.{GrowsOfVolume, GrownIsEdit, index_runs}
-use Rattle.made_trees.specs.plan_model.Informed.{is_info, with_record}
-use Rattle.made_trees.specs.plan_model.PlannedIndexes.{AreBeside}
-use Rattle.made_trees.proofs.plan_model.Rewriting.{same_stream}
-use Rattle.made_trees.proofs.plan_values.Valued.{old_pairs}
-use Rattle.made_trees.proofs.written_values.Joining.{nothing_kept}
-use Rattle.made_trees.specs.change_steps.plan_changes.Going.{StandsAs}
-use Rattle.made_trees.specs.change_steps.Found.{FoundIsThere}
-use Rattle.made_trees.specs.plan_model.Informed.{IsApart}
-use Rattle.made_trees.specs.new_files.Laws.{NewFileReads}
-use Rattle.made_trees.specs.record_times.Laws.{TimesAreSet}
-use Rattle.made_trees.specs.record_times.Times.{timed_record}
-use Rattle.made_trees.specs.file_puts.declared.streams.VolumeStreams.{VolumeStreams}
-use Rattle.made_trees.specs.file_puts.Written.{AreStreamsOf}
-use Rattle.made_trees.specs.file_makes.declared.newfile.NewFile.{NewFile}
-use Rattle.made_trees.specs.file_makes.Making.{PutsMade}
-use Rattle.made_trees.specs.made_files.Made.{made_link, made_key, FitsFields, IsParent}
-use Rattle.made_trees.specs.step_model.Placing.{Growth, wanted_by}
-use Rattle.made_trees.specs.step_model.Used.{most_used, used_after}
-use Rattle.made_trees.specs.step_model.Streams.{Changed}
-use Rattle.made_trees.specs.step_model.Plans.{grows_table, table_in, table_change, used_if, used_in, full_row, spread_comes, spread_used}
-use Rattle.made_trees.specs.step_model.Steps.{Step}
-use Rattle.made_trees.specs.Created.{timed_directory, timed_volume}
-use Rattle.made_trees.specs.Grown.{KeepsIndex, HasGrownBefore}
-use Rattle.made_trees.specs.Behind.{MakesFileBehind}
+use Rattle.place_makes.specs.made_trees.plan_model.Informed.{is_info, with_record}
+use Rattle.place_makes.specs.made_trees.plan_model.PlannedIndexes.{AreBeside}
+use Rattle.place_makes.proofs.made_trees.plan_model.Rewriting.{same_stream}
+use Rattle.place_makes.proofs.made_trees.plan_values.Valued.{old_pairs}
+use Rattle.place_makes.proofs.made_trees.written_values.Joining.{nothing_kept}
+use Rattle.place_makes.specs.made_trees.change_steps.plan_changes.Going.{StandsAs}
+use Rattle.place_makes.specs.made_trees.change_steps.Found.{FoundIsThere}
+use Rattle.place_makes.specs.made_trees.plan_model.Informed.{IsApart}
+use Rattle.place_makes.specs.made_trees.new_files.Laws.{NewFileReads}
+use Rattle.place_makes.specs.made_trees.record_times.Laws.{TimesAreSet}
+use Rattle.place_makes.specs.made_trees.record_times.Times.{timed_record}
+use Rattle.place_makes.specs.made_trees.file_puts.declared.streams.VolumeStreams.{VolumeStreams}
+use Rattle.place_makes.specs.made_trees.file_puts.Written.{AreStreamsOf}
+use Rattle.place_makes.specs.made_trees.file_makes.declared.newfile.NewFile.{NewFile}
+use Rattle.place_makes.specs.made_trees.file_makes.Making.{PutsMade}
+use Rattle.place_makes.specs.made_trees.made_files.Made.{made_link, made_key, FitsFields, IsParent}
+use Rattle.place_makes.specs.made_trees.step_model.Placing.{Growth, wanted_by}
+use Rattle.place_makes.specs.made_trees.step_model.Used.{most_used, used_after}
+use Rattle.place_makes.specs.made_trees.step_model.Streams.{Changed}
+use Rattle.place_makes.specs.made_trees.step_model.Plans.{grows_table, table_in, table_change, used_if, used_in, full_row, spread_comes, spread_used}
+use Rattle.place_makes.specs.made_trees.step_model.Steps.{Step}
+use Rattle.place_makes.specs.made_trees.Created.{timed_directory, timed_volume}
+use Rattle.place_makes.specs.made_trees.Grown.{KeepsIndex, HasGrownBefore}
+use Rattle.place_makes.specs.made_trees.Behind.{MakesFileBehind}
 use Rattle.made_steps.specs.Steps.{HasRootOf}
 use Rattle.made_steps.specs.Behind.{MayRise, RisesWhereNeeded, TakesStepBehind, MadeBehindAreSteps}
 use Rattle.made_steps.specs.Timed.{TimesKeepIndex, IndexesMove}

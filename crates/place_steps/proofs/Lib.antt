@@ -1,3 +1,4 @@
+pub use Rattle.place_makes.proofs as place_makes
 pub mod Finding
 pub mod Quiet
 pub mod Behind

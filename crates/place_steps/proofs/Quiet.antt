@@ -16,13 +16,13 @@ use Rattle.tree_model.specs.declared.script.Op.TheVariants.{Create}
 use Rattle.tree_model.specs.declared.reply.Reply.TheVariants.{Created}
 use Rattle.plan_draft.specs.declared.touched.Touched.{Touched}
 use Rattle.plan_draft.specs.Drafts.{drafted}
-use Rattle.made_trees.specs.step_model.Steps.{Step}
-use Rattle.made_trees.specs.file_puts.declared.streams.VolumeStreams.{VolumeStreams}
-use Rattle.made_trees.specs.file_makes.declared.newfile.NewFile.{NewFile}
-use Rattle.made_trees.specs.file_makes.Making.{PutsMade}
-use Rattle.made_trees.specs.made_files.Made.{made_key}
-use Rattle.made_trees.specs.Created.{timed_directory, timed_volume}
-use Rattle.made_trees.specs.Grown.{KeepsIndex}
+use Rattle.place_makes.specs.made_trees.step_model.Steps.{Step}
+use Rattle.place_makes.specs.made_trees.file_puts.declared.streams.VolumeStreams.{VolumeStreams}
+use Rattle.place_makes.specs.made_trees.file_makes.declared.newfile.NewFile.{NewFile}
+use Rattle.place_makes.specs.made_trees.file_makes.Making.{PutsMade}
+use Rattle.place_makes.specs.made_trees.made_files.Made.{made_key}
+use Rattle.place_makes.specs.made_trees.Created.{timed_directory, timed_volume}
+use Rattle.place_makes.specs.made_trees.Grown.{KeepsIndex}
 use Rattle.made_steps.specs.Timed.{IndexesMove}
 use Rattle.place_makes.specs.found_places.Places.{PutsDirectory, HasTimes, PutsFlat, LieBehind}
 use Rattle.place_makes.specs.found_places.Laws.{PlacesAreThere, PlacesTakeSteps}

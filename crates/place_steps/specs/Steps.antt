@@ -12,11 +12,11 @@ use Rattle.tree_model.specs.declared.reply.Reply.TheVariants.{Created}
 use Rattle.plan_draft.specs.declared.touched.Touched.{Touched}
 use Rattle.plan_draft.specs.Drafts.{drafted}
 use Rattle.record_streams.specs.Fitting.{FitsButRoom}
-use Rattle.made_trees.specs.step_model.Steps.{Step}
-use Rattle.made_trees.specs.file_puts.declared.streams.VolumeStreams.{VolumeStreams}
-use Rattle.made_trees.specs.file_puts.Written.{AreStreamsOf}
-use Rattle.made_trees.specs.file_makes.declared.newfile.NewFile.{NewFile}
-use Rattle.made_trees.specs.made_files.Made.{HasNumbers}
+use Rattle.place_makes.specs.made_trees.step_model.Steps.{Step}
+use Rattle.place_makes.specs.made_trees.file_puts.declared.streams.VolumeStreams.{VolumeStreams}
+use Rattle.place_makes.specs.made_trees.file_puts.Written.{AreStreamsOf}
+use Rattle.place_makes.specs.made_trees.file_makes.declared.newfile.NewFile.{NewFile}
+use Rattle.place_makes.specs.made_trees.made_files.Made.{HasNumbers}
 use Rattle.place_makes.specs.found_places.Places.{IsFoundPlace}
 use Rattle.place_makes.specs.Placing.{PutsInPlace}
 

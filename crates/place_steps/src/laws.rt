@@ -6,8 +6,9 @@ use grown_indexes::{counts_among_all, put_grows_first, puts_as_counted};
 use index_edits::grown_is_edit;
 use index_places::indexes_are_laid_out;
 use made_steps::{indexes_move, made_behind_are_steps, rises_where_needed, times_keep_index};
-use made_trees::{found_is_there, new_file_reads, times_are_set};
-use place_makes::{places_are_there, places_take_steps};
+use place_makes::{
+    found_is_there, new_file_reads, places_are_there, places_take_steps, times_are_set,
+};
 use state_streams::streams_of_states;
 
 /// Law: where an operation was found to make a file, and a draft that touched nothing has put it in

@@ -6,4 +6,5 @@
 
 mod laws;
 
+pub use grown_indexes::{put_grows_next, puts_among};
 pub use laws::places_are_steps;

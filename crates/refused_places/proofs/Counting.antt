@@ -20,10 +20,10 @@ use Rattle.volume_model.specs.Volumes.{Volume, cluster_bits, file_in, table_file
 use Rattle.volume_state.specs.Trees.{tree_of}
 use Rattle.tree_model.specs.declared.reply.Reply.{Reply}
 use Rattle.tree_model.specs.declared.reply.Reply.TheVariants.{RecordFull}
-use Rattle.made_trees.specs.step_model.Used.{most_used, used_after}
-use Rattle.made_trees.specs.step_model.Streams.{Changed, index_comes}
-use Rattle.made_trees.specs.step_model.Placing.{Growth, taken_runs}
-use Rattle.made_trees.specs.step_model.Plans.{bits_left, full_row, grows_table, spread_comes, spread_used, table_change, table_in}
+use Rattle.place_makes.specs.made_trees.step_model.Used.{most_used, used_after}
+use Rattle.place_makes.specs.made_trees.step_model.Streams.{Changed, index_comes}
+use Rattle.place_makes.specs.made_trees.step_model.Placing.{Growth, taken_runs}
+use Rattle.place_makes.specs.made_trees.step_model.Plans.{bits_left, full_row, grows_table, spread_comes, spread_used, table_change, table_in}
 use Rattle.directory_growth.specs.Growing.{root_bytes}
 use Rattle.place_makes.specs.index_grows.Counted.{IsTooFull}
 use Rattle.refused_places.specs.Refused.{more_bytes}

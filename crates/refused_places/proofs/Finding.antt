@@ -22,14 +22,14 @@ use Rattle.tree_model.specs.Effects.{new_link}
 use Rattle.plan_draft.specs.Drafts.{drafted}
 use Rattle.node_spreads.specs.Nodes.{WritesFit}
 use Rattle.node_spreads.proofs.Raising.{plans_fit}
-use Rattle.made_trees.specs.new_files.Laws.{NewFileReads, HasFields}
-use Rattle.made_trees.specs.new_files.NewFiles.{link_in}
-use Rattle.made_trees.specs.file_makes.declared.newfile.NewFile.{NewFile}
-use Rattle.made_trees.specs.made_files.Made.{made_key}
-use Rattle.made_trees.specs.step_model.Plans.{grows_table}
-use Rattle.made_trees.specs.step_model.Spreads.{IsKeyOf}
-use Rattle.made_trees.proofs.plan_model.Drafting.{per_is}
-use Rattle.made_trees.proofs.written_values.Joining.{nothing_put}
+use Rattle.place_makes.specs.made_trees.new_files.Laws.{NewFileReads, HasFields}
+use Rattle.place_makes.specs.made_trees.new_files.NewFiles.{link_in}
+use Rattle.place_makes.specs.made_trees.file_makes.declared.newfile.NewFile.{NewFile}
+use Rattle.place_makes.specs.made_trees.made_files.Made.{made_key}
+use Rattle.place_makes.specs.made_trees.step_model.Plans.{grows_table}
+use Rattle.place_makes.specs.made_trees.step_model.Spreads.{IsKeyOf}
+use Rattle.place_makes.proofs.made_trees.plan_model.Drafting.{per_is}
+use Rattle.place_makes.proofs.made_trees.written_values.Joining.{nothing_put}
 use Rattle.made_steps.specs.Refused.{FindsDirectory}
 use Rattle.place_makes.specs.found_places.Places.{HasPlace, HasNames, LieBehind}
 use Rattle.place_makes.specs.found_places.Laws.{PlacesAreThere}

@@ -22,13 +22,13 @@ use Rattle.tree_model.specs.declared.script.Op.TheVariants.{Create}
 use Rattle.tree_model.specs.declared.reply.Reply.TheVariants.{RecordFull}
 use Rattle.node_spreads.specs.Nodes.{WritesFit}
 use Rattle.node_spreads.proofs.Raising.{roots_grow}
-use Rattle.made_trees.specs.new_files.Laws.{NewFileReads}
-use Rattle.made_trees.specs.file_makes.declared.newfile.NewFile.{NewFile}
-use Rattle.made_trees.specs.made_files.Made.{made_key}
-use Rattle.made_trees.specs.step_model.Used.{most_used}
-use Rattle.made_trees.specs.step_model.Spreads.{MayAddLevel}
-use Rattle.made_trees.specs.step_model.Plans.{spread_used}
-use Rattle.made_trees.specs.step_model.Steps.{Step}
+use Rattle.place_makes.specs.made_trees.new_files.Laws.{NewFileReads}
+use Rattle.place_makes.specs.made_trees.file_makes.declared.newfile.NewFile.{NewFile}
+use Rattle.place_makes.specs.made_trees.made_files.Made.{made_key}
+use Rattle.place_makes.specs.made_trees.step_model.Used.{most_used}
+use Rattle.place_makes.specs.made_trees.step_model.Spreads.{MayAddLevel}
+use Rattle.place_makes.specs.made_trees.step_model.Plans.{spread_used}
+use Rattle.place_makes.specs.made_trees.step_model.Steps.{Step}
 use Rattle.made_steps.specs.Behind.{MayRise, RisesWhereNeeded}
 use Rattle.made_steps.specs.Refused.{FindsDirectory, PlansKey, NotMadeIsStep}
 use Rattle.place_makes.specs.found_places.Laws.{PlacesAreThere}

@@ -31,16 +31,16 @@ use Rattle.tree_model.specs.declared.reply.Reply.TheVariants.{RecordFull}
 use Rattle.tree_model.specs.Refusals.{new_name, first_of}
 use Rattle.tree_model.specs.Effects.{numbers_to_take, least_ref, new_link}
 use Rattle.node_spreads.specs.Nodes.{WritesFit}
-use Rattle.made_trees.specs.new_files.Laws.{NewFileReads}
-use Rattle.made_trees.specs.file_makes.declared.newfile.NewFile.{NewFile}
-use Rattle.made_trees.specs.made_files.Made.{made_key}
-use Rattle.made_trees.specs.step_model.Used.{most_used}
-use Rattle.made_trees.specs.step_model.Spreads.{blocks_in, IsKeyOf, IsSpread, Outcome, Raised, MayBecome}
-use Rattle.made_trees.specs.step_model.Plans.{Plan, made_plan, spread_used, full_row, new_file_attrs, grows_table, table_change, used_in, used_if, IsMadePlan}
-use Rattle.made_trees.specs.step_model.Steps.{Step}
-use Rattle.made_trees.proofs.step_model.NeverFull.{never_full}
-use Rattle.made_trees.specs.change_steps.Found.{IsPlaceFound, FoundIsThere}
-use Rattle.made_trees.specs.change_steps.Makings.{MakingsAreSteps}
+use Rattle.place_makes.specs.made_trees.new_files.Laws.{NewFileReads}
+use Rattle.place_makes.specs.made_trees.file_makes.declared.newfile.NewFile.{NewFile}
+use Rattle.place_makes.specs.made_trees.made_files.Made.{made_key}
+use Rattle.place_makes.specs.made_trees.step_model.Used.{most_used}
+use Rattle.place_makes.specs.made_trees.step_model.Spreads.{blocks_in, IsKeyOf, IsSpread, Outcome, Raised, MayBecome}
+use Rattle.place_makes.specs.made_trees.step_model.Plans.{Plan, made_plan, spread_used, full_row, new_file_attrs, grows_table, table_change, used_in, used_if, IsMadePlan}
+use Rattle.place_makes.specs.made_trees.step_model.Steps.{Step}
+use Rattle.place_makes.proofs.made_trees.step_model.NeverFull.{never_full}
+use Rattle.place_makes.specs.made_trees.change_steps.Found.{IsPlaceFound, FoundIsThere}
+use Rattle.place_makes.specs.made_trees.change_steps.Makings.{MakingsAreSteps}
 use Rattle.made_steps.specs.Behind.{MayRise}
 use Rattle.made_steps.specs.Refused.{FindsDirectory}
 use Rattle.place_makes.specs.found_places.Laws.{PlacesAreThere}

@@ -30,8 +30,8 @@ use Rattle.volume_model.specs.Indexes.{form_value, attr_value, root_value}
 use Rattle.volume_model.specs.Volumes.{Volume, file_in}
 use Rattle.stream_laws.proofs.Tabling.{read_in_use}
 use Rattle.plan_owners.specs.States.{Stands}
-use Rattle.made_trees.proofs.plan_model.OneRecord.{own_record}
-use Rattle.made_trees.proofs.written_values.plan_edits.plan_growth.Resizing.{slot_open}
+use Rattle.place_makes.proofs.made_trees.plan_model.OneRecord.{own_record}
+use Rattle.place_makes.proofs.made_trees.written_values.plan_edits.plan_growth.Resizing.{slot_open}
 use Rattle.refused_places.proofs.Pieces.{bytes_in, IsMadeOf, whole_made_of}
 
 -- ---- the value in its record

@@ -11,8 +11,8 @@ use Rattle.volume_state.specs.Trees.{tree_of, tree_with}
 use Rattle.tree_laws.specs.LookUps.{spare_of}
 use Rattle.tree_laws.proofs.LookingUp.{spare_found}
 use Rattle.tree_model.specs.Effects.{ref_at}
-use Rattle.made_trees.specs.made_files.Made.{IsSpare}
-use Rattle.made_trees.specs.step_model.Plans.{grows_table}
+use Rattle.place_makes.specs.made_trees.made_files.Made.{IsSpare}
+use Rattle.place_makes.specs.made_trees.step_model.Plans.{grows_table}
 
 some_spare : (refs : List FileRef) (n : ℕ) (x : FileRef) → ref_at refs n ≡ Some x → eqb (length refs) 0 ≡ false
 unfolding ref_at

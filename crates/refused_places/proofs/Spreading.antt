@@ -18,7 +18,7 @@ use Rattle.index_change.specs.Plans.{root_room, seventeen, needs_level}
 use Rattle.node_spreads.specs.Nodes.{WritesFit}
 use Rattle.node_spreads.proofs.Counting.{blocks_counted}
 use Rattle.node_spreads.proofs.Fitting.{Fits, Known, one_fits, all_fit}
-use Rattle.made_trees.specs.step_model.Spreads.{blocks_in, IsSpread, RootMay}
+use Rattle.place_makes.specs.made_trees.step_model.Spreads.{blocks_in, IsSpread, RootMay}
 
 -- ---- what is written
 

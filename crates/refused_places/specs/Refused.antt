@@ -18,10 +18,10 @@ use Rattle.volume_model.specs.Volumes.{Volume, file_in, upper_of, cluster_bits}
 use Rattle.tree_model.specs.declared.script.Op.TheVariants.{Create}
 use Rattle.tree_model.specs.declared.reply.Reply.TheVariants.{IndexDeep, RecordFull}
 use Rattle.record_streams.specs.Fitting.{FitsButRoom}
-use Rattle.made_trees.specs.step_model.Used.{most_used}
-use Rattle.made_trees.specs.step_model.Steps.{Step}
-use Rattle.made_trees.specs.file_makes.declared.newfile.NewFile.{NewFile}
-use Rattle.made_trees.specs.made_files.Made.{made_key}
+use Rattle.place_makes.specs.made_trees.step_model.Used.{most_used}
+use Rattle.place_makes.specs.made_trees.step_model.Steps.{Step}
+use Rattle.place_makes.specs.made_trees.file_makes.declared.newfile.NewFile.{NewFile}
+use Rattle.place_makes.specs.made_trees.made_files.Made.{made_key}
 use Rattle.made_steps.specs.Behind.{MayRise}
 use Rattle.place_makes.specs.found_places.Places.{IsFoundPlace, LieBehind}
 use Rattle.place_makes.specs.index_grows.Counted.{IsTooFull}

@@ -4,7 +4,7 @@ use Rattle.record_model.specs.declared.entry.Entry.{Entry as Raw}
 use Rattle.record_model.specs.Nodes.{node_used, node_room}
 use Rattle.index_model.specs.declared.key.Key.{Key}
 use Rattle.index_model.specs.Trees.{Tree, Down, held, raws_of}
-use Rattle.made_trees.specs.step_model.Spreads.{blocks_in, IsSpread}
+use Rattle.place_makes.specs.made_trees.step_model.Spreads.{blocks_in, IsSpread}
 
 -- Where an index without a level more is spread so, for whatever room, has no fewer blocks than before, and its root's entries have room in a block, it
 -- is spread with the level too, by a block of a number that it hasn't.

@@ -3,8 +3,7 @@ ghost use Rattle.refused_places.specs.Refused.{DeepPlacesAreSteps, FullPlacesAre
 ghost use Rattle.refused_places.specs.Topped.{LevelsTop};
 
 use made_steps::{not_made_is_step, rises_where_needed};
-use made_trees::{found_is_there, makings_are_steps, new_file_reads};
-use place_makes::places_are_there;
+use place_makes::{found_is_there, makings_are_steps, new_file_reads, places_are_there};
 
 /// Law: an index that is spread without a level more is spread with one by the block into which the
 /// root goes down as a whole.

@@ -1,2 +1,3 @@
+pub use Rattle.grown_tables.specs as grown_tables
 pub mod Faults
 pub mod Growing

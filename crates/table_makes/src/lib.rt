@@ -11,3 +11,4 @@ pub use fault::{CountFault, TableFault};
 pub use file_puts::VolumeStreams;
 pub use growing::grow_table_first;
 pub use grown::TableGrown;
+pub use grown_tables::{table_grows_first, table_is_not_full, table_is_ready, table_takes_little};

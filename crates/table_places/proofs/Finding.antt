@@ -28,15 +28,15 @@ use Rattle.tree_model.specs.Steps.{step_refusal}
 use Rattle.tree_model.specs.Effects.{numbers_to_take, least_ref}
 use Rattle.plan_owners.specs.States.{Stands}
 use Rattle.plan_owners.proofs.Standing.{some_file}
-use Rattle.made_trees.specs.change_steps.Found.{IsPlaceFound, FoundIsThere}
-use Rattle.made_trees.specs.change_steps.plan_values.Values.{IsOwnFile}
-use Rattle.made_trees.specs.file_makes.declared.newfile.NewFile.{NewFile}
-use Rattle.made_trees.specs.made_files.Made.{made_link}
-use Rattle.made_trees.proofs.change_steps.Rows.{place_by}
-use Rattle.place_makes.specs.found_places.Places.{HasNames}
-use Rattle.place_makes.proofs.found_places.Rows.{IsUnrefused, unrefused}
-use Rattle.place_makes.proofs.found_places.Directory.{IsDirectoryThere, directory_there}
-use Rattle.place_makes.proofs.found_places.Names.{HasIndexOf, index_there, are_beside}
+use Rattle.table_steps.specs.made_trees.change_steps.Found.{IsPlaceFound, FoundIsThere}
+use Rattle.table_steps.specs.made_trees.change_steps.plan_values.Values.{IsOwnFile}
+use Rattle.table_steps.specs.made_trees.file_makes.declared.newfile.NewFile.{NewFile}
+use Rattle.table_steps.specs.made_trees.made_files.Made.{made_link}
+use Rattle.table_steps.proofs.made_trees.change_steps.Rows.{place_by}
+use Rattle.place_steps.specs.place_makes.found_places.Places.{HasNames}
+use Rattle.place_steps.proofs.place_makes.found_places.Rows.{IsUnrefused, unrefused}
+use Rattle.place_steps.proofs.place_makes.found_places.Directory.{IsDirectoryThere, directory_there}
+use Rattle.place_steps.proofs.place_makes.found_places.Names.{HasIndexOf, index_there, are_beside}
 use Rattle.table_places.specs.Steps.{IsFoundBehind}
 
 -- ---- a file table has not too many records

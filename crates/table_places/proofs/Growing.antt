@@ -44,35 +44,35 @@ use Rattle.plan_blocks.specs.plan_edits.Moves.{EditsDraft}
 use Rattle.draft_indexes.specs.declared.blocks.IndexBlocks.{IndexBlocks}
 use Rattle.draft_indexes.specs.Growing.{wanted_clusters, taken_for, size_with, grown_file, MayGrowBlocks, GrowsBlocks}
 use Rattle.index_edits.specs.Grown.{GrowsOfVolume, GrownIsEdit, index_runs}
-use Rattle.made_trees.specs.plan_model.Informed.{IsApart, with_record}
-use Rattle.made_trees.proofs.plan_values.Valued.{old_pairs}
-use Rattle.made_trees.specs.change_steps.Found.{FoundIsThere}
-use Rattle.made_trees.specs.new_files.Laws.{NewFileReads}
-use Rattle.made_trees.specs.record_times.Laws.{TimesAreSet}
-use Rattle.made_trees.specs.file_makes.declared.newfile.NewFile.{NewFile}
-use Rattle.made_trees.specs.made_files.Made.{IsSpare}
-use Rattle.made_trees.specs.step_model.Placing.{Growth, taken_runs, wanted_by}
-use Rattle.made_trees.specs.step_model.Plans.{bits_left, table_change, spread_comes, spread_used}
-use Rattle.made_trees.specs.step_model.Steps.{Step}
-use Rattle.made_trees.specs.step_model.Used.{most_used}
-use Rattle.made_trees.specs.Grown.{KeepsIndex, HasGrownBefore}
+use Rattle.table_steps.specs.made_trees.plan_model.Informed.{IsApart, with_record}
+use Rattle.table_steps.proofs.made_trees.plan_values.Valued.{old_pairs}
+use Rattle.table_steps.specs.made_trees.change_steps.Found.{FoundIsThere}
+use Rattle.table_steps.specs.made_trees.new_files.Laws.{NewFileReads}
+use Rattle.table_steps.specs.made_trees.record_times.Laws.{TimesAreSet}
+use Rattle.table_steps.specs.made_trees.file_makes.declared.newfile.NewFile.{NewFile}
+use Rattle.table_steps.specs.made_trees.made_files.Made.{IsSpare}
+use Rattle.table_steps.specs.made_trees.step_model.Placing.{Growth, taken_runs, wanted_by}
+use Rattle.table_steps.specs.made_trees.step_model.Plans.{bits_left, table_change, spread_comes, spread_used}
+use Rattle.table_steps.specs.made_trees.step_model.Steps.{Step}
+use Rattle.table_steps.specs.made_trees.step_model.Used.{most_used}
+use Rattle.table_steps.specs.made_trees.Grown.{KeepsIndex, HasGrownBefore}
 use Rattle.made_steps.specs.Steps.{HasRootOf}
 use Rattle.made_steps.specs.Behind.{RisesWhereNeeded, TakesStepBehind, MadeBehindAreSteps}
 use Rattle.made_steps.specs.Timed.{TimesKeepIndex, IndexesMove}
-use Rattle.grown_indexes.specs.First.{growths_by}
-use Rattle.grown_indexes.specs.Put.{PutGrowsNext}
-use Rattle.grown_indexes.specs.Steps.{PutsAmong}
-use Rattle.place_makes.specs.found_places.Steady.{HasBlocks}
-use Rattle.place_makes.proofs.found_places.Rooted.{root_length}
-use Rattle.place_makes.specs.index_grows.Counted.{CountsFor}
-use Rattle.place_makes.specs.index_grows.Growing.{GrowsCounted}
+use Rattle.place_steps.specs.grown_indexes.First.{growths_by}
+use Rattle.place_steps.specs.grown_indexes.Put.{PutGrowsNext}
+use Rattle.place_steps.specs.grown_indexes.Steps.{PutsAmong}
+use Rattle.place_steps.specs.place_makes.found_places.Steady.{HasBlocks}
+use Rattle.place_steps.proofs.place_makes.found_places.Rooted.{root_length}
+use Rattle.place_steps.specs.place_makes.index_grows.Counted.{CountsFor}
+use Rattle.place_steps.specs.place_makes.index_grows.Growing.{GrowsCounted}
 use Rattle.directory_growth.specs.Growing.{root_bytes}
 use Rattle.resized_streams.proofs.Chosen.{total_chosen}
 use Rattle.stream_laws.proofs.Editing.{length-with_edits}
 use Rattle.written_clusters.proofs.Taking.{length-cluster_bits}
 use Rattle.place_steps.proofs.Behind.{streams_with, numbers_with}
 use Rattle.place_steps.proofs.Finding.{some_come}
-use Rattle.table_makes.specs.declared.grown.TableGrown.{TableGrown}
+use Rattle.table_steps.specs.table_makes.declared.grown.TableGrown.{TableGrown}
 use Rattle.table_places.specs.Steps.{MakesBehindTable, PlacesBehindAreSteps}
 use Rattle.table_places.proofs.Finding.{HasDirectory}
 use Rattle.table_places.proofs.Left.{left_clear}

@@ -22,8 +22,8 @@ use Rattle.plan_owners.specs.States.{Stands}
 use Rattle.plan_owners.proofs.ByKind.{marked}
 use Rattle.plan_draft.specs.declared.touched.Touched.{Touched}
 use Rattle.plan_draft.specs.Drafts.{drafted}
-use Rattle.made_trees.specs.step_model.Placing.{Growth, AllPlaced, more_of, taken_runs}
-use Rattle.made_trees.specs.Grown.{HasGrownBefore}
+use Rattle.table_steps.specs.made_trees.step_model.Placing.{Growth, AllPlaced, more_of, taken_runs}
+use Rattle.table_steps.specs.made_trees.Grown.{HasGrownBefore}
 use Rattle.draft_growth.proofs.Tables.{length-with_runs}
 use Rattle.table_edits.proofs.Taken.{clear_before, runs_set}
 use Rattle.writes_keep.proofs.Used.{unused}

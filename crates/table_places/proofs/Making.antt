@@ -41,40 +41,40 @@ use Rattle.plan_draft.specs.Touching.{bodies_of}
 use Rattle.plan_draft.specs.Drafts.{drafted}
 use Rattle.draft_bits.specs.Effects.{IsKept}
 use Rattle.index_places.specs.Places.{IndexesAreLaidOut}
-use Rattle.made_trees.specs.plan_model.Informed.{is_info, InfoDiffers}
-use Rattle.made_trees.specs.plan_model.PlannedIndexes.{AreBeside}
-use Rattle.made_trees.specs.change_steps.plan_values.Values.{WritesValues}
-use Rattle.made_trees.specs.change_steps.plan_edits.Moves.{EditsDraft}
-use Rattle.made_trees.specs.change_steps.plan_edits.Records.{PutsRecordOf}
-use Rattle.made_trees.specs.change_steps.plan_changes.Going.{StandsAs}
-use Rattle.made_trees.specs.change_steps.Found.{FoundIsThere}
-use Rattle.made_trees.specs.new_files.Laws.{NewFileReads}
-use Rattle.made_trees.specs.record_times.Laws.{TimesAreSet}
-use Rattle.made_trees.specs.record_times.Times.{timed_record}
-use Rattle.made_trees.specs.file_puts.Written.{AreStreamsOf}
-use Rattle.made_trees.specs.file_makes.declared.newfile.NewFile.{NewFile}
-use Rattle.made_trees.specs.file_makes.Making.{PutsMade}
-use Rattle.made_trees.specs.made_files.Made.{made_link, made_key, FitsFields, IsParent, IsSpare, HasNumbers}
+use Rattle.table_steps.specs.made_trees.plan_model.Informed.{is_info, InfoDiffers}
+use Rattle.table_steps.specs.made_trees.plan_model.PlannedIndexes.{AreBeside}
+use Rattle.table_steps.specs.made_trees.change_steps.plan_values.Values.{WritesValues}
+use Rattle.table_steps.specs.made_trees.change_steps.plan_edits.Moves.{EditsDraft}
+use Rattle.table_steps.specs.made_trees.change_steps.plan_edits.Records.{PutsRecordOf}
+use Rattle.table_steps.specs.made_trees.change_steps.plan_changes.Going.{StandsAs}
+use Rattle.table_steps.specs.made_trees.change_steps.Found.{FoundIsThere}
+use Rattle.table_steps.specs.made_trees.new_files.Laws.{NewFileReads}
+use Rattle.table_steps.specs.made_trees.record_times.Laws.{TimesAreSet}
+use Rattle.table_steps.specs.made_trees.record_times.Times.{timed_record}
+use Rattle.table_steps.specs.made_trees.file_puts.Written.{AreStreamsOf}
+use Rattle.table_steps.specs.made_trees.file_makes.declared.newfile.NewFile.{NewFile}
+use Rattle.table_steps.specs.made_trees.file_makes.Making.{PutsMade}
+use Rattle.table_steps.specs.made_trees.made_files.Made.{made_link, made_key, FitsFields, IsParent, IsSpare, HasNumbers}
 use Rattle.record_streams.specs.Fitting.{FitsButRoom}
-use Rattle.made_trees.specs.step_model.Placing.{Growth}
-use Rattle.made_trees.specs.step_model.Plans.{table_change}
-use Rattle.made_trees.specs.Created.{timed_directory, timed_volume}
-use Rattle.made_trees.specs.Grown.{KeepsIndex, HasGrownBefore}
-use Rattle.made_trees.specs.Behind.{MakesFileBehind}
-use Rattle.made_trees.proofs.plan_model.Drafting.{per_is}
-use Rattle.made_trees.proofs.plan_model.Rewriting.{same_stream}
-use Rattle.made_trees.proofs.plan_values.Valued.{values_written}
-use Rattle.made_trees.proofs.made_files.plan_informed.Informed.{values_edit}
-use Rattle.made_trees.proofs.written_values.Joining.{puts_record}
+use Rattle.table_steps.specs.made_trees.step_model.Placing.{Growth}
+use Rattle.table_steps.specs.made_trees.step_model.Plans.{table_change}
+use Rattle.table_steps.specs.made_trees.Created.{timed_directory, timed_volume}
+use Rattle.table_steps.specs.made_trees.Grown.{KeepsIndex, HasGrownBefore}
+use Rattle.table_steps.specs.made_trees.Behind.{MakesFileBehind}
+use Rattle.table_steps.proofs.made_trees.plan_model.Drafting.{per_is}
+use Rattle.table_steps.proofs.made_trees.plan_model.Rewriting.{same_stream}
+use Rattle.table_steps.proofs.made_trees.plan_values.Valued.{values_written}
+use Rattle.table_steps.proofs.made_trees.made_files.plan_informed.Informed.{values_edit}
+use Rattle.table_steps.proofs.made_trees.written_values.Joining.{puts_record}
 use Rattle.made_steps.specs.Steps.{HasRootOf}
 use Rattle.made_steps.specs.Behind.{MayRise, RisesWhereNeeded}
 use Rattle.made_steps.specs.Timed.{TimesKeepIndex, IndexesMove}
-use Rattle.place_makes.specs.found_places.Places.{HasNames, LieBehind}
-use Rattle.place_makes.proofs.found_places.Vcns.{once_behind, real_there}
-use Rattle.place_makes.specs.Placing.{PutsTimed}
+use Rattle.place_steps.specs.place_makes.found_places.Places.{HasNames, LieBehind}
+use Rattle.place_steps.proofs.place_makes.found_places.Vcns.{once_behind, real_there}
+use Rattle.place_steps.specs.place_makes.Placing.{PutsTimed}
 use Rattle.place_steps.proofs.Finding.{same_value}
 use Rattle.place_steps.proofs.Behind as behind
-use Rattle.table_makes.specs.declared.grown.TableGrown.{TableGrown}
+use Rattle.table_steps.specs.table_makes.declared.grown.TableGrown.{TableGrown}
 use Rattle.table_places.specs.Steps.{MakesBehindTable}
 use Rattle.table_places.proofs.Finding as finding
 

@@ -36,30 +36,30 @@ use Rattle.plan_draft.specs.Drafts.{drafted}
 use Rattle.draft_records.specs.Records.{written_bytes, fits_room}
 use Rattle.state_streams.specs.Streams.{StreamsOfStates, IsPlacedIn}
 use Rattle.index_places.specs.Places.{IndexesAreLaidOut}
-use Rattle.made_trees.specs.change_steps.Found.{FoundIsThere}
-use Rattle.made_trees.specs.new_files.Laws.{NewFileReads}
-use Rattle.made_trees.specs.record_times.Times.{timed_record}
-use Rattle.made_trees.specs.record_times.Laws.{TimesAreSet}
-use Rattle.made_trees.specs.file_makes.declared.newfile.NewFile.{NewFile}
-use Rattle.made_trees.specs.file_makes.Making.{rooted_record}
-use Rattle.made_trees.specs.step_model.Contents.{same_key, is_among, HasGrown}
-use Rattle.made_trees.specs.step_model.Placing.{Growth, AllPlaced, more_of, taken_runs, wanted_by}
-use Rattle.made_trees.specs.step_model.Plans.{bits_left, table_change, spread_comes}
-use Rattle.made_trees.specs.step_model.Steps.{Step}
-use Rattle.made_trees.specs.step_model.Streams.{stream_in, root_comes, blocks_key, used_key}
-use Rattle.made_trees.specs.step_model.Used.{most_used, used_after, is_in_record}
-use Rattle.made_trees.specs.Created.{timed_directory, timed_volume}
-use Rattle.made_trees.specs.Grown.{IsOfGrowth, HasGrownBefore}
+use Rattle.table_steps.specs.made_trees.change_steps.Found.{FoundIsThere}
+use Rattle.table_steps.specs.made_trees.new_files.Laws.{NewFileReads}
+use Rattle.table_steps.specs.made_trees.record_times.Times.{timed_record}
+use Rattle.table_steps.specs.made_trees.record_times.Laws.{TimesAreSet}
+use Rattle.table_steps.specs.made_trees.file_makes.declared.newfile.NewFile.{NewFile}
+use Rattle.table_steps.specs.made_trees.file_makes.Making.{rooted_record}
+use Rattle.table_steps.specs.made_trees.step_model.Contents.{same_key, is_among, HasGrown}
+use Rattle.table_steps.specs.made_trees.step_model.Placing.{Growth, AllPlaced, more_of, taken_runs, wanted_by}
+use Rattle.table_steps.specs.made_trees.step_model.Plans.{bits_left, table_change, spread_comes}
+use Rattle.table_steps.specs.made_trees.step_model.Steps.{Step}
+use Rattle.table_steps.specs.made_trees.step_model.Streams.{stream_in, root_comes, blocks_key, used_key}
+use Rattle.table_steps.specs.made_trees.step_model.Used.{most_used, used_after, is_in_record}
+use Rattle.table_steps.specs.made_trees.Created.{timed_directory, timed_volume}
+use Rattle.table_steps.specs.made_trees.Grown.{IsOfGrowth, HasGrownBefore}
 use Rattle.made_steps.specs.Steps.{HasRootOf}
 use Rattle.made_steps.specs.Behind.{RisesWhereNeeded, TakesStepBehind, MadeBehindAreSteps}
 use Rattle.made_steps.specs.Timed.{TimesKeepIndex, IndexesMove}
-use Rattle.place_makes.proofs.found_places.Rooted.{own_type, root_counted, same_root}
-use Rattle.place_makes.proofs.found_places.Steady.{IsOneValue, Stays, IsKept, index_kept, all_placed, none_wanted, same_growths}
-use Rattle.place_makes.proofs.found_places.Times.{timed_bytes, written_again}
-use Rattle.place_makes.proofs.found_places.Values.{one_value, root_one}
-use Rattle.place_makes.specs.Placing.{PutsTimed}
+use Rattle.place_steps.proofs.place_makes.found_places.Rooted.{own_type, root_counted, same_root}
+use Rattle.place_steps.proofs.place_makes.found_places.Steady.{IsOneValue, Stays, IsKept, index_kept, all_placed, none_wanted, same_growths}
+use Rattle.place_steps.proofs.place_makes.found_places.Times.{timed_bytes, written_again}
+use Rattle.place_steps.proofs.place_makes.found_places.Values.{one_value, root_one}
+use Rattle.place_steps.specs.place_makes.Placing.{PutsTimed}
 use Rattle.place_steps.proofs.Finding.{none_come}
-use Rattle.table_makes.specs.declared.grown.TableGrown.{TableGrown}
+use Rattle.table_steps.specs.table_makes.declared.grown.TableGrown.{TableGrown}
 use Rattle.table_places.specs.Steps.{MakesBehindTable}
 use Rattle.table_places.proofs.Making as making
 

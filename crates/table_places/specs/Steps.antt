@@ -13,11 +13,11 @@ use Rattle.change_lookup.specs.declared.found.Found.TheVariants.{Place}
 use Rattle.plan_draft.specs.declared.touched.Touched.{Touched}
 use Rattle.plan_draft.specs.Drafts.{drafted}
 use Rattle.record_streams.specs.Fitting.{FitsButRoom}
-use Rattle.made_trees.specs.step_model.Steps.{Step}
-use Rattle.made_trees.specs.change_steps.Found.{HasChange, Finds}
-use Rattle.made_trees.specs.file_makes.declared.newfile.NewFile.{NewFile}
-use Rattle.place_makes.specs.Placing.{PutsInPlace}
-use Rattle.table_makes.specs.declared.grown.TableGrown.{TableGrown}
+use Rattle.table_steps.specs.made_trees.step_model.Steps.{Step}
+use Rattle.table_steps.specs.made_trees.change_steps.Found.{HasChange, Finds}
+use Rattle.table_steps.specs.made_trees.file_makes.declared.newfile.NewFile.{NewFile}
+use Rattle.place_steps.specs.place_makes.Placing.{PutsInPlace}
+use Rattle.table_steps.specs.table_makes.declared.grown.TableGrown.{TableGrown}
 use Rattle.table_steps.specs.Steps.{HasTableFirst}
 
 -- An operation was found to make this file in this directory, at any number.

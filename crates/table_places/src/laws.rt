@@ -1,12 +1,12 @@
 //! The law of these definitions.
 ghost use Rattle.table_places.specs.Steps.{PlacesBehindAreSteps};
 
-use grown_indexes::{put_grows_next, puts_among};
 use index_edits::grown_is_edit;
 use index_places::indexes_are_laid_out;
 use made_steps::{indexes_move, made_behind_are_steps, rises_where_needed, times_keep_index};
-use made_trees::{found_is_there, new_file_reads, times_are_set};
+use place_steps::{put_grows_next, puts_among};
 use state_streams::streams_of_states;
+use table_steps::{found_is_there, new_file_reads, times_are_set};
 
 /// Law: where an operation was found to make a file, and a draft has let the file table grow and then
 /// put the file in its place, with the blocks that its directory's index takes of the clusters that

@@ -44,9 +44,9 @@ use Rattle.made_trees.specs.step_model.Used.{first_or, most_used, new_attr, own_
 use Rattle.made_trees.specs.step_model.Streams.{Comes, Wanted, as_value, attr_in, attrs_placed, bits_key, comes, in_clusters, placed_among, placed_by, stream_in, table_comes, wanted_bits, wanted_table}
 use Rattle.made_trees.specs.step_model.Plans.{full_row, grows_table, table_in, used_if, used_in}
 use Rattle.made_steps.specs.Behind.{table_used}
-use Rattle.grown_tables.proofs.Counted.{records_by, numbers_by, runs_more, none_chosen}
-use Rattle.grown_tables.proofs.First.{same_for}
-use Rattle.grown_tables.proofs.Full.{records_are}
+use Rattle.table_makes.proofs.grown_tables.Counted.{records_by, numbers_by, runs_more, none_chosen}
+use Rattle.table_makes.proofs.grown_tables.First.{same_for}
+use Rattle.table_makes.proofs.grown_tables.Full.{records_are}
 
 -- ---- what comes into record 0
 

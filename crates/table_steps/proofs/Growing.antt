@@ -32,12 +32,12 @@ use Rattle.made_trees.specs.file_puts.Written.{AreStreamsOf}
 use Rattle.made_trees.specs.step_model.Placing.{Growth, taken_runs}
 use Rattle.made_trees.specs.step_model.Plans.{bits_left, table_change}
 use Rattle.made_trees.specs.Grown.{IsOfTable}
-use Rattle.grown_tables.specs.First.{table_volume, MayBePut, TableGrowsFirst}
-use Rattle.grown_tables.specs.Full.{MayBeCounted, TableIsNotFull}
-use Rattle.grown_tables.specs.Ready.{IsReady, TableIsReady, TableTakesLittle}
-use Rattle.grown_tables.proofs.Counted.{numbers_by}
-use Rattle.grown_tables.proofs.First.{CountsNumbers, counts_placed, more_is}
-use Rattle.grown_tables.proofs.Held.{counts_held}
+use Rattle.table_makes.specs.grown_tables.First.{table_volume, MayBePut, TableGrowsFirst}
+use Rattle.table_makes.specs.grown_tables.Full.{MayBeCounted, TableIsNotFull}
+use Rattle.table_makes.specs.grown_tables.Ready.{IsReady, TableIsReady, TableTakesLittle}
+use Rattle.table_makes.proofs.grown_tables.Counted.{numbers_by}
+use Rattle.table_makes.proofs.grown_tables.First.{CountsNumbers, counts_placed, more_is}
+use Rattle.table_makes.proofs.grown_tables.Held.{counts_held}
 use Rattle.planned_streams.specs.Planned.{as_bitmap, bitmap_in, placed_in, table_in, table_with}
 use Rattle.table_makes.specs.Growing.{GrowsAsCounted, TableGrew}
 use Rattle.table_makes.specs.declared.grown.TableGrown.{TableGrown}

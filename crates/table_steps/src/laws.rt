@@ -1,7 +1,7 @@
 //! The laws of these definitions.
 ghost use Rattle.table_steps.specs.Steps.{TableIsRefused, TableTakesStep};
 
-use grown_tables::{table_grows_first, table_is_not_full, table_is_ready, table_takes_little};
+use table_makes::{table_grows_first, table_is_not_full, table_is_ready, table_takes_little};
 
 /// Law: where no number of a state is spare, and a draft that touched nothing has let the file table
 /// grow, it has grown as it may before a file is made, by the clusters that a step counts.

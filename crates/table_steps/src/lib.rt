@@ -7,3 +7,4 @@
 mod laws;
 
 pub use laws::{table_is_refused, table_takes_step};
+pub use made_trees::{found_is_there, new_file_reads, times_are_set};
