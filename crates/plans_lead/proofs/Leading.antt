@@ -84,20 +84,20 @@ module _ (keeps : WritesKeep) (m : MapParts) (table : List ℕ) (c : Content) (s
       subst (λ (d : Content). IsWelcome d w) (sym content)
       (welcome_after c (geometry_of m) m.volume s k.written.bodies changes w is_kept (stay c (geometry_of m) m.volume.clusters m.volume s op n stamp a r x new k.writes k.written) (counted c (geometry_of m) m.volume.clusters m.volume s op n stamp a r x new k.writes k.written) k.writes.stands.room is)
 
-  leads_on : WritesKeepNames → LeadsOn m table changes c
-  leads_on stay = record {
+  leads_on : LeadsOn m table changes c
+  leads_on = record {
     volume = w;
     stands = subst (λ (d : Content). Stands d (geometry_of m) m.volume.clusters w) (sym content) k.written.draft.stands;
     upper = k.state.upper ∙ sym is_kept.upper ∙ ap (λ (d : Content). upper_of d w) (sym content);
     draft = subst (λ (d : Content). DraftIn c m.volume changes d w) (sym content) is_kept.keeps.draft;
     writable = writable;
-    names = stay c (geometry_of m) m.volume.clusters m.volume s op n stamp a r x new k.writes k.written;
   }
 
   pub leads_as_asked : WritesKeepNames → WritesKeepLists → LeadsAsAsked m table c s changes
   unfolding leads_on
   leads_as_asked stay counted = record {
-    leads = leads_on stay;
+    leads = leads_on;
+    names = stay c (geometry_of m) m.volume.clusters m.volume s op n stamp a r x new k.writes k.written;
     apart = all_apart changes is_kept.keeps.apart;
     lists = subst (λ (d : Content). HasOwnLists d w) (sym content) is_kept.lists;
     streams = is_kept.streams;

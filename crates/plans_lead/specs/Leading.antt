@@ -15,6 +15,7 @@ use Rattle.spares_at_mount.specs.volume_state.Trees.{tree_of}
 use Rattle.spares_at_mount.specs.volume_mount.Boot.{KeepsBoot}
 use Rattle.spares_at_mount.specs.volume_mount.Welcome.{IsWelcome}
 use Rattle.spares_at_mount.specs.map_change.Parts.{MapParts}
+use Rattle.spares_at_mount.specs.same_names.Names.{SameNames}
 use Rattle.stream_laws.specs.Sharing.{StreamKey, stream_at, runs_in}
 use Rattle.tree_model.specs.declared.script.Op.{Op}
 use Rattle.spares_at_mount.specs.plan_owners.Agreeing.{log_key}
@@ -44,11 +45,12 @@ pub record IsFilePlan (m : MapParts) (table : List ℕ) (c : Content) (s : Volum
   pub lists : HasOwnLists c m.volume
   pub whole : HasWholeSectors c m.volume
 
--- The changes lead on as a volume asks, and are apart. Behind them too no attribute list has a part in another record; the file table, its mirror and the bits of clusters have these extents; there
+-- The changes lead on as a volume asks, and are apart, and the files keep their names. Behind them too no attribute list has a part in another record; the file table, its mirror and the bits of clusters have these extents; there
 -- is no change journal; and the streams of the volume's own files in which no operation writes, the log's among them, keep their clusters. Each change lies off the clusters of the log, and off
 -- record 2 where the boot sector says. A state that a mount takes leads to one that it takes too.
 pub record LeadsAsAsked (m : MapParts) (table : List ℕ) (c : Content) (s : VolumeStreams) (changes : List Change) : Type 0 where
   pub leads : LeadsOn m table changes c
+  pub names : SameNames m.volume.files leads.volume.files
   pub apart : AreApart changes
   pub lists : HasOwnLists (content_after changes c) leads.volume
   pub streams : AreStreamsOf leads.volume s

@@ -10,4 +10,4 @@ mod laws;
 
 pub use checking::may_put;
 pub use laws::{checks_are_enough, checks_are_met};
-pub use state_store::{PutFault, put_changes, turn_store};
+pub use state_store::{PutFault, SameNamesRule, put_changes, turn_store};

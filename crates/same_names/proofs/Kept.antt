@@ -21,14 +21,14 @@ use Rattle.same_names.proofs.Alike.{alike_itself, file_in, all_alike}
 
 -- ---- one change more
 
-none_found : (p : RecordChange → Bool) (xs : List RecordChange) → find p xs ≡ None → list_any p xs ≡ false
+pub none_found : (p : RecordChange → Bool) (xs : List RecordChange) → find p xs ≡ None → list_any p xs ≡ false
 none_found p [] is = refl
 none_found p (a ∷ xs) is = elim (cases_Bool (p a)) [
   | inl hit ↦ (let here : Some a ≡ None = rw hit at is in absurd cc)
   | inr miss ↦ (let later : find p xs ≡ None = rw miss at is in rw miss (none_found p xs later))
 ]
 
-not_found : (p : RecordChange → Bool) (xs : List RecordChange) → list_any p xs ≡ false → find p xs ≡ None
+pub not_found : (p : RecordChange → Bool) (xs : List RecordChange) → list_any p xs ≡ false → find p xs ≡ None
 not_found p [] none = refl
 not_found p (a ∷ xs) none = let parts = or_parts (p a) (list_any p xs) none in rw parts.0 (not_found p xs parts.1)
 
@@ -98,15 +98,15 @@ module _ (records : List (Option Record)) where
 
 -- ---- the files behind the changes
 
-length_behind : (xs : List RecordChange) (p : MapParts) → length (applied_all xs p).volume.files ≡ length p.volume.files
+pub length_behind : (xs : List RecordChange) (p : MapParts) → length (applied_all xs p).volume.files ≡ length p.volume.files
 length_behind [] p = refl
 length_behind (x ∷ xs) p = length-set (applied_all xs p).volume.files x.number x.file ∙ length_behind xs p
 
-abbrev file_put : Option RecordChange → Option Record → Option Record
+abbrev pub file_put : Option RecordChange → Option Record → Option Record
 file_put None o = o
 file_put (Some x) o = x.file
 
-at_behind : (xs : List RecordChange) (p : MapParts) (n : ℕ) → n < length p.volume.files → get_or (applied_all xs p).volume.files n None ≡ file_put (find (is_of n) xs) (get_or p.volume.files n None)
+pub at_behind : (xs : List RecordChange) (p : MapParts) (n : ℕ) → n < length p.volume.files → get_or (applied_all xs p).volume.files n None ≡ file_put (find (is_of n) xs) (get_or p.volume.files n None)
 at_behind [] p n below = refl
 at_behind (x ∷ xs) p n below = elim (cases_eq x.number n) [
   | inl same ↦
@@ -120,16 +120,16 @@ at_behind (x ∷ xs) p n below = elim (cases_eq x.number n) [
 ]
 
 module _ (p : MapParts) (f : Extents) (xs : List RecordChange) where
-  abbrev records : List (Option Record)
+  abbrev pub records : List (Option Record)
   records = p.volume.files
 
-  abbrev others : List (Option Record)
+  abbrev pub others : List (Option Record)
   others = (applied_all xs (tabled f p)).volume.files
 
-  count_is : length others ≡ record_count f
+  pub count_is : length others ≡ record_count f
   count_is = length_behind xs (tabled f p) ∙ length_resized (record_count f) None records
 
-  at_others : (n : ℕ) → n < record_count f → get_or others n None ≡ file_put (find (is_of n) xs) (get_or records n None)
+  pub at_others : (n : ℕ) → n < record_count f → get_or others n None ≡ file_put (find (is_of n) xs) (get_or records n None)
   at_others n below =
       at_behind xs (tabled f p) n (omega (arith, length_resized (record_count f) None records, below))
       ∙ ap (file_put (find (is_of n) xs)) (get_resized (record_count f) None records n below)

@@ -49,8 +49,10 @@ fn are_files_alike(
     Ok(are_same_links(links.as_slice(), others.as_slice()))
 }
 
-// The same of two files that there may be.
-fn are_named_alike(
+/// Whether at this number there is no file in both of two maps, or in both one with the same sequence
+/// number and the same names, in their order. The error is want of memory. It takes time and memory
+/// linear in their names.
+pub fn are_named_alike(
     alloc: Global,
     number: u64,
     file: Option<&FileRec>,
@@ -92,8 +94,8 @@ fn have_same_names(
 
 // ---- some files
 
-// The record where it is a base record.
-fn only_base(file: &Option<FileRec>) -> Option<&FileRec>
+/// The record where it is a base record. It takes constant time.
+pub fn only_base(file: &Option<FileRec>) -> Option<&FileRec>
     ensures { option_copied result ≡ only_base file.now }
 {
     match file {
@@ -102,8 +104,8 @@ fn only_base(file: &Option<FileRec>) -> Option<&FileRec>
     }
 }
 
-// Whether one of the changes is of the record with this number.
-fn is_any_of(changes: &[RecordChange], number: u64) -> bool
+/// Whether one of the changes is of the record with this number. It takes time linear in the changes.
+pub fn is_any_of(changes: &[RecordChange], number: u64) -> bool
     ensures { result ≡ list_any (is_of number) changes.now }
 {
     changes.iter().any(|change| change.number == number)

@@ -1,9 +1,10 @@
 -- The state and its map after changes.
-use Rattle.std.proofs.Common.{◌≡◌, subst, ℕ, List, Result, Ok, refl, sym, ap, ◌∙◌}
+use Rattle.std.proofs.Common.{◌≡◌, subst, ℕ, List, Option, Result, Ok, refl, sym, ap, ◌∙◌}
 use Rattle.host_base.specs.Answers.{◌>>=◌}
 use Rattle.disk_model.specs.Content.{Content}
 use Rattle.disk_model.specs.declared.block.Change.{Change}
 use Rattle.block_view.specs.Changes.{content_after}
+use Rattle.same_names.specs.map_change.record_model.Records.{Record}
 use Rattle.same_names.specs.state_model.declared.geometry.Geometry.{Geometry}
 use Rattle.same_names.specs.state_model.declared.geometry.MapRefusal.{MapRefusal}
 use Rattle.same_names.specs.volume_model.Volumes.{Volume, volume_of}
@@ -11,7 +12,7 @@ use Rattle.same_names.proofs.stream_laws.Rewriting.{volume_parts}
 use Rattle.same_names.specs.map_change.Parts.{MapParts, parts_of, map_of}
 use Rattle.state_blocks.specs.plan_owners.States.{Stands}
 use Rattle.state_store.specs.Volumes.{geometry_of, IsStateOf}
-use Rattle.state_store.specs.Changes.{LeadsOn}
+use Rattle.state_store.specs.Changes.{LeadsOn, KeepsNamesBy}
 use Rattle.state_store.specs.Preparing.{HaveMaps}
 
 -- the map of a content whose volume is loaded
@@ -21,12 +22,21 @@ map_loaded c g clusters v is = ap (λ (r : Result Volume MapRefusal). r >>= λ w
 pub has_map : (m : MapParts) (table : List ℕ) (c : Content) → IsStateOf m table c → map_of c (geometry_of m) m.volume.clusters ≡ Ok m
 has_map m table c state = map_loaded c (geometry_of m) m.volume.clusters m.volume state.stands.loaded ∙ ap Ok (sym state.map)
 
-pub have_maps : (m : MapParts) (table : List ℕ) (changes : List Change) (c : Content) → IsStateOf m table c → LeadsOn m table changes c → HaveMaps m c (content_after changes c)
-have_maps m table changes c state leads = record {
+pub have_maps : (may : List (Option Record) → List (Option Record) → Type 0) (m : MapParts) (table : List ℕ) (changes : List Change) (c : Content) → IsStateOf m table c → LeadsOn m table changes c → KeepsNamesBy may m changes c → HaveMaps may m c (content_after changes c)
+have_maps may m table changes c state leads allowed = record {
   now = has_map m table c state;
   next = parts_of (content_after changes c) leads.volume;
   then = map_loaded (content_after changes c) (geometry_of m) m.volume.clusters leads.volume leads.stands.loaded;
-  names = leads.names;
+  names = allowed.names leads.volume leads.stands;
+}
+
+one_volume : (v w : Volume) (r : Result Volume MapRefusal) → r ≡ Ok v → r ≡ Ok w → w ≡ v
+one_volume v w r one two = cc
+
+-- a rule by which the files of the volume to which changes lead may follow allows those of each volume that stands there
+pub allowed_by : (may : List (Option Record) → List (Option Record) → Type 0) (m : MapParts) (table : List ℕ) (changes : List Change) (c : Content) (leads : LeadsOn m table changes c) → may m.volume.files leads.volume.files → KeepsNamesBy may m changes c
+allowed_by may m table changes c leads is = record {
+  names = λ v stands. subst (λ (w : Volume). may m.volume.files w.files) (sym (one_volume leads.volume v (volume_of (content_after changes c) (geometry_of m) m.volume.clusters) leads.stands.loaded stands.loaded)) is;
 }
 
 geometry_with : ℕ → ℕ → Geometry

@@ -1,5 +1,5 @@
 -- What changes in a transaction make of which blocks are dirty or dead.
-use Rattle.std.proofs.Common.{◌≡◌, subst, ℕ, suc, Bool, true, false, cond, ◌||◌, List, [], ◌∷◌, Option, Some, None, refl, sym, ap, ◌∙◌, inl, inr}
+use Rattle.std.proofs.Common.{◌≡◌, subst, ℕ, Bool, true, false, cond, ◌||◌, List, [], ◌∷◌, Option, Some, None, refl, sym, ap, ◌∙◌, inl, inr}
 use Rattle.std.specs.Prelude.{is_some}
 use Rattle.std.specs.Option.{option_or}
 use Rattle.std.specs.List.{AllByRecursion}
@@ -10,7 +10,6 @@ use Rattle.disk_model.specs.declared.block.Change.{Change}
 use Rattle.disk_model.specs.Sectors.{same_block, are_rivals}
 use Rattle.disk_model.proofs.Frames.{same_block-is}
 use Rattle.turn_laws.proofs.store_model.Told.{true≢false, rivals_both, rivals_other}
-use Rattle.turn_laws.specs.log_page.declared.places.LogPlace.{LogPlace}
 use Rattle.turn_laws.specs.txn_model.declared.mark.Mark.{Mark}
 use Rattle.turn_laws.specs.txn_model.Values.{StoreFacts}
 use Rattle.turn_laws.specs.txn_model.Calls.{begun_facts, changed_facts, committed_facts, given_up_facts}

@@ -15,6 +15,7 @@ use Rattle.sector_device.specs.Sectors.{IsDiskOf}
 use Rattle.block_view.specs.Changes.{content_after}
 use Rattle.turn_laws.specs.device_view.Devices.{GoesOnwards, CountsOnDevice, CountsCauseOnDevice}
 use Rattle.turn_laws.specs.log_page.declared.places.LogPlace.{LogPlace}
+use Rattle.same_names.specs.map_change.record_model.Records.{Record}
 use Rattle.same_names.specs.map_change.Parts.{MapParts, map_of}
 use Rattle.turn_laws.specs.txn_model.Values.{StoreFacts}
 use Rattle.turn_laws.specs.txn_state.States.{StateOf, facts_of, HasSize, IsStore}
@@ -28,7 +29,7 @@ use Rattle.turn_laws.specs.txn_core.Views.{present_on, present_content, KeepsSiz
 use Rattle.state_store.specs.declared.fault.PutFault.{PutFault}
 use Rattle.state_store.specs.declared.fault.PutFault.TheVariants.{NeedsRoom, Fault, Memory, Broken}
 use Rattle.state_store.specs.Volumes.{geometry_of, IsStateOf, SparesState, HoldsState}
-use Rattle.state_store.specs.Changes.{MayLog, AreApart, IsWritable, AreWritable, LeadsOn}
+use Rattle.state_store.specs.Changes.{MayLog, AreApart, IsWritable, AreWritable, LeadsOn, KeepsNamesBy}
 use Rattle.state_store.specs.Rooms.{Shortage, room_cause}
 use Rattle.state_store.specs.Windows.{LeadsTo, AfterPut, StaysWindow, AfterChanges}
 use Rattle.state_store.specs.Logging.{AreSpelled, HasCommitted}
@@ -276,9 +277,10 @@ room_answer (Err Broken) meant is short = tt
 
 -- ---- the volume
 
-pub all_maps : (m : MapParts) (table : List ℕ) (xs : List Change) (known : Option Content) → IfSome known (IsStateOf m table) → IfSome known (LeadsOn m table xs) → IfSome known (λ c. HaveMaps m c (content_after xs c))
-all_maps m table xs None shown leads = tt
-all_maps m table xs (Some c) shown leads = have_maps m table xs c shown leads
+pub all_maps : (may : List (Option Record) → List (Option Record) → Type 0) (m : MapParts) (table : List ℕ) (xs : List Change) (known : Option Content) → IfSome known (IsStateOf m table) → IfSome known (LeadsOn m table xs) → IfSome known (KeepsNamesBy may m xs)
+    → IfSome known (λ c. HaveMaps may m c (content_after xs c))
+all_maps may m table xs None shown leads allowed = tt
+all_maps may m table xs (Some c) shown leads allowed = have_maps may m table xs c shown leads allowed
 
 pub all_writable : (m : MapParts) (table : List ℕ) (xs : List Change) (known : Option Content) → IfSome known (LeadsOn m table xs) → IfSome known (λ c. AreWritable xs (content_after xs c))
 all_writable m table xs None leads = tt

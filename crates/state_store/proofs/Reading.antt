@@ -11,6 +11,7 @@ use Rattle.turn_laws.proofs.device_view.Keeping.{device_failed, device_counts}
 use Rattle.same_names.specs.volume_map.declared.fault.MapFault.{MapFault}
 use Rattle.same_names.specs.volume_map.declared.fault.MapFault.TheVariants as faults
 use Rattle.same_names.specs.volume_map.Errors.{map_cause}
+use Rattle.same_names.specs.map_change.record_model.Records.{Record}
 use Rattle.same_names.specs.map_change.Parts.{MapParts, map_of}
 use Rattle.same_names.specs.map_change.Applying.{applied}
 use Rattle.same_names.specs.map_change.declared.change.MapChange.{MapChange}
@@ -46,24 +47,24 @@ store_counts {D} cause result gives count changes faults moment old last x given
 
 -- ---- why a map isn't prepared
 
-refused_known : (m : MapParts) (changes : List Change) (known : Option (List (List ℕ))) (state : StateOf) (fault : MapFault) → IfSome (present_content known state) (λ c. HaveMaps m c (content_after changes c))
+refused_known : (may : List (Option Record) → List (Option Record) → Type 0) (m : MapParts) (changes : List Change) (known : Option (List (List ℕ))) (state : StateOf) (fault : MapFault) → IfSome (present_content known state) (λ c. HaveMaps may m c (content_after changes c))
     → IfSome (present_content known state) (λ c. map_of c (geometry_of m) m.volume.clusters ≡ Ok m → GivesOrFails (λ (change : MapChange). applied change m) map_cause (Err fault) (map_of (content_after changes c) (geometry_of m) m.volume.clusters))
     → prepare_fault fault ≡ Broken → known ≡ None
-refused_known m changes None state fault maps answer is = refl
-refused_known m changes (Some disk) state (faults.Refused refusal) maps answer is = absurd (let none = answer maps.now in let some = maps.then in cc)
-refused_known m changes (Some disk) state faults.View maps answer is = absurd cc
-refused_known m changes (Some disk) state faults.Memory maps answer is = absurd cc
+refused_known may m changes None state fault maps answer is = refl
+refused_known may m changes (Some disk) state (faults.Refused refusal) maps answer is = absurd (let none = answer maps.now in let some = maps.then in cc)
+refused_known may m changes (Some disk) state faults.View maps answer is = absurd cc
+refused_known may m changes (Some disk) state faults.Memory maps answer is = absurd cc
 
-pub broken_unknown : (m : MapParts) (changes : List Change) (known : Option (List (List ℕ))) (state : StateOf) (fault : MapFault) → IfSome (present_content known state) (λ c. HaveMaps m c (content_after changes c))
+pub broken_unknown : (may : List (Option Record) → List (Option Record) → Type 0) (m : MapParts) (changes : List Change) (known : Option (List (List ℕ))) (state : StateOf) (fault : MapFault) → IfSome (present_content known state) (λ c. HaveMaps may m c (content_after changes c))
     → IfSome (present_content known state) (λ c. map_of c (geometry_of m) m.volume.clusters ≡ Ok m → GivesOrFails (λ (change : MapChange). applied change m) map_cause (Err fault) (map_of (content_after changes c) (geometry_of m) m.volume.clusters))
     → (why : PutFault) → why ≡ prepare_fault fault → why ≡ Broken → known ≡ None
-broken_unknown m changes known state fault maps answer why is broken = refused_known m changes known state fault maps answer (sym is ∙ broken)
+broken_unknown may m changes known state fault maps answer why is broken = refused_known may m changes known state fault maps answer (sym is ∙ broken)
 
-pub is_prepared : (m : MapParts) (changes : List Change) (known : Option (List (List ℕ))) (state : StateOf) (change : MapChange) → IfSome (present_content known state) (λ c. HaveMaps m c (content_after changes c))
+pub is_prepared : (may : List (Option Record) → List (Option Record) → Type 0) (m : MapParts) (changes : List Change) (known : Option (List (List ℕ))) (state : StateOf) (change : MapChange) → IfSome (present_content known state) (λ c. HaveMaps may m c (content_after changes c))
     → IfSome (present_content known state) (λ c. map_of c (geometry_of m) m.volume.clusters ≡ Ok m → GivesOrFails (λ (change : MapChange). applied change m) map_cause (Ok change) (map_of (content_after changes c) (geometry_of m) m.volume.clusters))
     → IfSome (present_content known state) (λ c. map_of (content_after changes c) (geometry_of m) m.volume.clusters ≡ Ok (applied change m))
-is_prepared m changes None state change maps answer = tt
-is_prepared m changes (Some disk) state change maps answer = answer maps.now
+is_prepared may m changes None state change maps answer = tt
+is_prepared may m changes (Some disk) state change maps answer = answer maps.now
 
 pub never_short : (fault : MapFault) (why : PutFault) → why ≡ prepare_fault fault → NeverShort {X = MapChange} (Err why)
 never_short fault why is = subst (λ (e : PutFault). NeverShort {X = MapChange} (Err e)) (sym is) (by fault)

@@ -1,7 +1,7 @@
 -- Which blocks are spared behind changes that were put, or weren't.
-use Rattle.std.proofs.Common.{◌≡◌, subst, ℕ, zero, suc, ◌+◌, ◌<◌, ◌≤◌, Bool, true, false, not, ◌&&◌, ◌||◌, List, [], ◌∷◌, length, Option, Some, None, Result, Ok, Err, refl, sym, ap, ap₂, ◌∙◌, inl, inr, arith}
+use Rattle.std.proofs.Common.{◌≡◌, subst, ℕ, zero, suc, ◌+◌, ◌<◌, ◌≤◌, Bool, true, false, not, ◌||◌, List, [], ◌∷◌, length, Option, Some, None, Result, Ok, Err, refl, sym, ap, ◌∙◌, inl, inr, arith}
 use Rattle.std.specs.Prelude.{◌⊎◌, ◌==◌, IfSome, is_some, unwrap_or}
-use Rattle.std.specs.List.{AllByRecursion, list_any, list_all, range_with_len}
+use Rattle.std.specs.List.{AllByRecursion, list_all, range_with_len}
 use Rattle.std.proofs.lemmas.Bool.{cases_Bool, and_parts, and_from}
 use Rattle.disk_model.specs.declared.block.Block.{Block}
 use Rattle.disk_model.specs.declared.block.Body.{Body}
@@ -37,12 +37,12 @@ use Rattle.state_store.specs.Changes.{MayLog, AreApart, LeadsOn}
 use Rattle.state_store.specs.Windows.{changed_by, LeadsTo, StaysWindow, AfterChanges, AfterPutting}
 use Rattle.state_store.specs.Logging.{StoppedBy, ChangedBy}
 use Rattle.state_store.specs.declared.fault.PutFault.{PutFault}
-use Rattle.state_store.specs.Puts.{PutsContent, PutsMap, PutsFacts, PutsOver}
+use Rattle.state_store.specs.Puts.{PutsContent, PutsMap, PutsFacts}
 use Rattle.state_store.specs.Spared.{PutsSpare}
 use Rattle.state_store.proofs.Lists.{each_weaker, unchanged_by, changed_whole, changed_found}
 use Rattle.state_store.proofs.Contents.{committed_content, stopped_content}
 use Rattle.state_store.proofs.Following.{next_map}
-use Rattle.state_store.proofs.Marking.{rivals_unchanged, Marked, marked_committed, IsFresh, fresh_committed, Stopped, stopped_by}
+use Rattle.state_store.proofs.Marking.{rivals_unchanged, Marked, marked_committed, fresh_committed, Stopped, stopped_by}
 use Rattle.state_store.specs.Claims.{NoRival}
 
 pub some_length : {X : Type 0} (xs : List X) → (length xs == 0) ≡ false → 0 < length xs

@@ -1,5 +1,5 @@
 -- The state of a volume behind a step of its store.
-use Rattle.std.proofs.Common.{◌≡◌, subst, ℕ, ◌+◌, ◌*◌, ◌^◌, ◌<◌, ◌≤◌, Bool, true, false, List, length, map, Option, Some, None, Result, refl, sym, ap, ap₂, ◌∙◌, inl, inr, arith}
+use Rattle.std.proofs.Common.{◌≡◌, subst, ℕ, ◌*◌, ◌^◌, ◌<◌, ◌≤◌, Bool, false, List, map, Option, Some, None, Result, refl, sym, ap, ap₂, ◌∙◌, inl, inr, arith}
 use mathlib.Core.Path.{fun_ext}
 use Rattle.std.specs.Prelude.{IfSome, is_some, unwrap_or}
 use Rattle.std.specs.List.{range_with_len}
@@ -23,7 +23,7 @@ use Rattle.same_names.specs.volume_map.Heads.{head_of, head_at, heads_of}
 use Rattle.same_names.specs.map_change.Parts.{MapParts, parts_of}
 use Rattle.state_blocks.specs.Needing.{AgreeOnNeeded, NeededIsAll}
 use Rattle.turn_laws.specs.txn_model.Values.{StoreFacts}
-use Rattle.turn_laws.specs.txn_state.States.{StateOf, facts_of, IsStore}
+use Rattle.turn_laws.specs.txn_state.States.{facts_of, IsStore}
 use Rattle.turn_laws.specs.txn_core.Seen.{Seen, TakesStep}
 use Rattle.turn_laws.specs.txn_core.Steps.{MayTurn, HasTurned, TurnsDevice, AfterTurn}
 use Rattle.turn_laws.specs.txn_core.Views.{present_on, present_content}

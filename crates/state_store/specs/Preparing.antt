@@ -8,7 +8,7 @@ use Rattle.turn_laws.specs.device_view.Devices.{CountsOnDevice}
 use Rattle.same_names.specs.volume_map.declared.fault.MapFault.{MapFault}
 use Rattle.same_names.specs.volume_map.declared.fault.MapFault.TheVariants as faults
 use Rattle.same_names.specs.map_change.Parts.{MapParts, map_of}
-use Rattle.same_names.specs.Names.{SameNames}
+use Rattle.same_names.specs.map_change.record_model.Records.{Record}
 use Rattle.turn_laws.specs.txn_core.Seen.{Seen}
 use Rattle.state_store.specs.declared.fault.PutFault.{PutFault}
 use Rattle.state_store.specs.declared.fault.PutFault.TheVariants.{NeedsRoom, Fault, Memory, Broken}
@@ -31,12 +31,12 @@ pub record FailsSeen {D : Type 0} (faults moment : D → ℕ) (old new : Seen D)
 pub record CountsSeen {D T E F : Type 0} (faults moment : D → ℕ) (cause : E → Cause F) (result : Result T E) (old new : Seen D) : Type 0 where
   pub counted : moment old.device < last_moment → CountsOnDevice cause (faults old.device) (faults new.device) (moment new.device) result
 
--- the first content has this map, and the second one has some, of which the files have the same names
-pub record HaveMaps (m : MapParts) (c d : Content) : Type 0 where
+-- the first content has this map, and the second one has some, of which the files may follow those of the first, by a rule of their names
+pub record HaveMaps (may : List (Option Record) → List (Option Record) → Type 0) (m : MapParts) (c d : Content) : Type 0 where
   pub now : map_of c (geometry_of m) m.volume.clusters ≡ Ok m
   pub next : MapParts
   pub then : map_of d (geometry_of m) m.volume.clusters ≡ Ok next
-  pub names : SameNames m.volume.files next.volume.files
+  pub names : may m.volume.files next.volume.files
 
 -- what a map's fault is to a volume
 abbrev pub prepare_fault : MapFault → PutFault

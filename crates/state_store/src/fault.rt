@@ -20,8 +20,8 @@ pub enum PutFault {
     /// There is no memory left.
     #[error("out of memory")]
     Memory,
-    /// The content after the changes is no volume's, its files would lose their names, or a body has
-    /// no spelling: only where what the device gives isn't known.
+    /// The content after the changes is no volume's, its files would have names that aren't allowed,
+    /// or a body has no spelling: only where what the device gives isn't known.
     #[error("the changes lead to no volume")]
     Broken,
 }

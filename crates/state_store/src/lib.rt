@@ -1,6 +1,6 @@
 //! Lists of changes that lead from a state to a state, through a store of a device's blocks that shows
-//! a state, of which the map in memory follows the content: each list as one transaction. They keep
-//! the names of the files, so that what is told by these needn't be made anew.
+//! a state, of which the map in memory follows the content: each list as one transaction. Of the
+//! names of the files the caller has a rule, so that what is told by these needn't be made anew.
 //!
 //! The contract: the present content of the store is a state, of which the map is the map. After a
 //! call that answers `Ok` it is the content after the changes, with one commit more; after any error
@@ -22,7 +22,7 @@ pub use flush_policy::StoreStep;
 pub use host_base::Failed;
 pub use laws::puts_spare;
 pub use putting::put_changes;
-pub use same_names::LiveMap;
+pub use same_names::{LiveMap, NamesRule, SameNamesRule};
 pub use state_blocks::needed_is_all;
 pub use turn_laws::{Store, StoreView, endings_tell, steps_lead_on, steps_spare, windows_tell};
 pub use turning::turn_store;

@@ -7,7 +7,6 @@ ghost use Rattle.turn_laws.specs.device_view.Devices.{CountsOnDevice};
 ghost use Rattle.same_names.specs.volume_map.Errors.{map_cause};
 ghost use Rattle.same_names.specs.map_change.Parts.{map_of, live_parts};
 ghost use Rattle.same_names.specs.map_change.Applying.{applied, HasRoom};
-ghost use Rattle.same_names.specs.Names.{SameNames};
 ghost use Rattle.turn_laws.specs.txn_core.Views.{present_content};
 ghost use Rattle.state_store.specs.declared.fault.PutFault.TheVariants.{Broken};
 ghost use Rattle.state_store.specs.Volumes.{geometry_of};
@@ -17,7 +16,7 @@ ghost use Rattle.state_store.specs.Puts.{put_cause};
 use crate::fault::PutFault;
 use disk_model::Change;
 use host_base::Memory;
-use same_names::{LiveMap, MapChange, MapFault, keeps_names, prepare};
+use same_names::{LiveMap, MapChange, MapFault, NamesRule, prepare};
 use sector_device::Device;
 use std::alloc::Global;
 use turn_laws::{Store, StoreView, piece_room};
@@ -56,34 +55,42 @@ fn prepare_fault(fault: MapFault) -> PutFault
     }
 }
 
-// Refuses a change of the map by which the files would lose their names.
-fn keep_names(alloc: Global, live: &LiveMap, change: &MapChange) -> Result<(), PutFault>
-    ensures { TellsWhether result (SameNames (live_parts live.now).volume.files (applied change.now (live_parts live.now)).volume.files) }
+// Refuses a change of the map by which the files would have other names than the rule allows.
+fn keep_names<R: NamesRule>(
+    alloc: Global,
+    rule: &R,
+    live: &LiveMap,
+    change: &MapChange,
+) -> Result<(), PutFault>
+    requires known { R.knows rule.now (live_parts live.now).volume.files }
+    ensures { TellsWhether result (R.may rule.now (live_parts live.now).volume.files (applied change.now (live_parts live.now)).volume.files) }
 {
-    match keeps_names(alloc, live, change) {
+    match rule.allows(alloc, live, change) {
         Ok(true) => Ok(()),
         Ok(false) => Err(PutFault::Broken),
         Err(Memory) => Err(PutFault::Memory),
     }
 }
 
-/// What makes the map that of the store's content after the changes, by which the files keep their
-/// names: with it, all memory that the map needs then is taken.
+/// What makes the map that of the store's content after the changes, by which the files have names
+/// that the rule allows: with it, all memory that the map needs then is taken.
 ///
 /// [`PutFault::Fault`]: the device failed; [`PutFault::Memory`]: want of memory;
-/// [`PutFault::Broken`]: the content is refused, or the files would lose their names, which comes
-/// only where the content isn't known. The costs are those of [`map_change::prepare`] and of
-/// [`same_names::keeps_names`].
-pub fn prepare_changes<D: Device>(
+/// [`PutFault::Broken`]: the content is refused, or the rule doesn't allow the names, which comes
+/// only where the content isn't known. The costs are those of [`map_change::prepare`] and of the
+/// rule.
+pub fn prepare_changes<D: Device, R: NamesRule>(
     store: &mut Store<D>,
     live: &mut LiveMap,
+    rule: &R,
     alloc: Global,
     changes: &[Change],
 ) -> Result<MapChange, PutFault>
     requires fits { All Fits changes.now }
-    requires maps { IfSome (present_content (D.gives store.old.device) store.old.state) (λ c. HaveMaps (live_parts live.old) c (content_after changes.now c)) }
+    requires known { R.knows rule.now (live_parts live.old).volume.files }
+    requires maps { IfSome (present_content (D.gives store.old.device) store.old.state) (λ c. HaveMaps (R.may rule.now) (live_parts live.old) c (content_after changes.now c)) }
     ensures value { IfOk result (λ change. IfSome (present_content (D.gives store.old.device) store.old.state) (λ c. map_of (content_after changes.now c) (geometry_of (live_parts live.old)) (live_parts live.old).volume.clusters ≡ Ok (applied change (live_parts live.old)))) }
-    ensures names { IfOk result (λ change. SameNames (live_parts live.old).volume.files (applied change (live_parts live.old)).volume.files) }
+    ensures names { IfOk result (λ change. R.may rule.now (live_parts live.old).volume.files (applied change (live_parts live.old)).volume.files) }
     ensures stays { live_parts live.new ≡ live_parts live.old }
     ensures room { IfOk result (HasRoom live.new) }
     ensures kept { KeepsSeen D.gives D.sector_count D.changes_of D.fault_count D.moment_of store.old store.new }
@@ -94,7 +101,7 @@ pub fn prepare_changes<D: Device>(
 {
     let mut room = piece_room(alloc)?;
     match prepare_through(store, live, alloc, &mut room, changes) {
-        Ok(change) => match keep_names(alloc, live, &change) {
+        Ok(change) => match keep_names(alloc, rule, live, &change) {
             Ok(()) => Ok(change),
             Err(fault) => Err(fault),
         },

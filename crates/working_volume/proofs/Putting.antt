@@ -1,6 +1,6 @@
 -- What stands behind the put of a plan.
 use Rattle.std.proofs.Common.{◌≡◌, subst, ℕ, ◌<◌, true, false, List, [], length, Bool, Option, Some, None, Result, Ok, Err, refl, sym, ap, ap₂, ◌∙◌, arith}
-use Rattle.std.specs.Prelude.{◌≢◌, All, IfSome}
+use Rattle.std.specs.Prelude.{◌≢◌, All, IfSome, OnErr, OnOk}
 use Rattle.std.specs.Option.{option_map}
 use Rattle.host_base.specs.Answers.{GivesOrFails}
 use Rattle.host_base.specs.Causes.{HasFailed, last_moment}
@@ -19,6 +19,8 @@ use Rattle.put_checks.specs.Checks.{may_put}
 use Rattle.change_plan.specs.Plans.{IsPlan}
 use Rattle.plans_lead.specs.same_names.Names.{SameNames}
 use Rattle.plans_lead.specs.names_stay.Held.{NamesStay}
+use Rattle.plans_lead.specs.volume_tree.declared.names.Names.{Names}
+use Rattle.plans_lead.specs.volume_tree.Named.{AreNamesOf}
 use Rattle.tree_model.specs.declared.script.Op.{Op}
 use Rattle.tree_model.specs.declared.reply.Reply.{Reply}
 use Rattle.tree_model.specs.declared.reply.Reply.TheVariants as reply
@@ -30,10 +32,11 @@ use Rattle.plans_lead.specs.txn_core.Seen.{Seen}
 use Rattle.plans_lead.specs.txn_core.Views.{present_content}
 use Rattle.put_checks.specs.state_store.declared.fault.PutFault.{PutFault}
 use Rattle.put_checks.specs.state_store.Volumes.{geometry_of, HoldsState}
-use Rattle.put_checks.specs.state_store.Changes.{MayLog, AreApart, LeadsOn}
+use Rattle.put_checks.specs.state_store.Changes.{MayLog, AreApart, LeadsOn, KeepsNamesBy}
 use Rattle.put_checks.specs.state_store.Rooms.{room_in, room_cause}
 use Rattle.put_checks.specs.state_store.Preparing.{KeepsSeen, FailsSeen}
 use Rattle.put_checks.specs.state_store.Puts.{PutsOver, IsUnknownWhereBroken, HasPutCauses}
+use Rattle.put_checks.proofs.state_store.Following.{allowed_by}
 use Rattle.put_checks.proofs.state_store.Outcomes.{nothing_put}
 use Rattle.put_checks.specs.state_store.turn_laws.device_view.Devices.{CountsOnDevice}
 use Rattle.change_plan.specs.declared.fault.PlanFault.{PlanFault}
@@ -54,11 +57,15 @@ use Rattle.working_volume.proofs.Readying.{put_ready, still_ready}
 all_taken : (known : Option Content) (f : StoreFacts) (m : MapParts) (table : List ℕ) (s : VolumeStreams) (xs : List Change) → IfSome known (IsTaken f m table s xs) → IfSome known (λ c. LeadsAsAsked m table c s xs)
 all_taken known f m table s xs taken = one known (IsTaken f m table s xs) (λ c. LeadsAsAsked m table c s xs) (λ c is. is.leads) taken
 
+named_behind : (names_stay : NamesStay) (put : Result (Unit {0}) PutFault) (m next : MapParts) → OnOk put (SameNames m.volume.files next.volume.files) → OnErr put (next ≡ m) → (names : Names) → AreNamesOf names m.volume.files → AreNamesOf names next.volume.files
+named_behind names_stay (Ok tt) m next same stay names is = names_stay names m.volume.files next.volume.files is same
+named_behind names_stay (Err fault) m next same stay names is = subst (λ (x : MapParts). AreNamesOf names x.volume.files) (sym stay) is
+
 pub tried : {D : Type 0} (names_stay : NamesStay) (gives : D → Option (List (List ℕ))) (count : D → ℕ) (moments : D → Changes) (failures moment : D → ℕ) (result : Result Reply DoFault) (plan : ChangePlan) (old new : Seen D) (m next : MapParts) (table : List ℕ) (put : Result (Unit {0}) PutFault)
     → 0 < length plan.changes.items → All (MayLog (facts_of old.state)) plan.changes.items → AreApart plan.changes.items → IfSome (present_content (gives old.device) old.state) (LeadsOn m table plan.changes.items) → is_given_up plan.reply ≡ false → result ≡ put_answer plan.reply put
     → HoldsState (gives new.device) (moments new.device) new.state next table → PutsOver put plan.changes.items (gives old.device) (gives new.device) old.state new.state (moments old.device) (moments new.device) m next → count new.device ≡ count old.device
-    → GivesOrFails (λ u. u) room_cause put (room_in (facts_of old.state) plan.changes.items) → IsUnknownWhereBroken put (gives old.device) → HasPutCauses failures moment put old new → SameNames m.volume.files next.volume.files → PutsPlan gives count moments failures moment result plan old new m next table
-tried {D} names_stay gives count moments failures moment result plan old new m next table put some each apart leads kept is holds over sectors room broken causes same = record {
+    → GivesOrFails (λ u. u) room_cause put (room_in (facts_of old.state) plan.changes.items) → IsUnknownWhereBroken put (gives old.device) → HasPutCauses failures moment put old new → OnOk put (SameNames m.volume.files next.volume.files) → OnErr put (next ≡ m) → PutsPlan gives count moments failures moment result plan old new m next table
+tried {D} names_stay gives count moments failures moment result plan old new m next table put some each apart leads kept is holds over sectors room broken causes same stay = record {
   holds = holds;
   puts = λ s taken. record {
     list = plan.changes.items;
@@ -73,7 +80,7 @@ tried {D} names_stay gives count moments failures moment result plan old new m n
   unknown = answer_unknown result plan.reply put (gives old.device) is broken;
   counts = answer_counts failures moment result plan.reply put old new is kept causes;
   sectors = sectors;
-  named = λ names is. names_stay names m.volume.files next.volume.files is same;
+  named = λ names is. named_behind names_stay put m next same stay names is;
 }
 
 -- ---- none that were
@@ -205,6 +212,11 @@ module _ {D : Type 0} (gives : D → Option (List (List ℕ))) (count : D → �
 
   pub leads_since : (m : MapParts) (table : List ℕ) (s : VolumeStreams) (xs : List Change) → (0 < length xs → IfSome (present_content (gives old.device) old.state) (IsTaken (facts_of old.state) m table s xs)) → 0 < length xs → IfSome (present_content (gives mid.device) mid.state) (LeadsOn m table xs)
   leads_since m table s xs taken some = subst (λ (o : Option Content). IfSome o (LeadsOn m table xs)) (sym known) (one (present_content (gives old.device) old.state) (IsTaken (facts_of old.state) m table s xs) (LeadsOn m table xs) (λ c is. is.leads.leads) (taken some))
+
+  pub allowed_since : (m : MapParts) (table : List ℕ) (s : VolumeStreams) (xs : List Change) → (0 < length xs → IfSome (present_content (gives old.device) old.state) (IsTaken (facts_of old.state) m table s xs)) → 0 < length xs → IfSome (present_content (gives mid.device) mid.state) (KeepsNamesBy SameNames m xs)
+  allowed_since m table s xs taken some =
+      subst (λ (o : Option Content). IfSome o (KeepsNamesBy SameNames m xs)) (sym known)
+      (one (present_content (gives old.device) old.state) (IsTaken (facts_of old.state) m table s xs) (KeepsNamesBy SameNames m xs) (λ c is. allowed_by SameNames m table xs c is.leads.leads is.leads.names) (taken some))
 
   pub passes_since : (m : MapParts) (table : List ℕ) (s : VolumeStreams) (xs : List Change) → (0 < length xs → IfSome (present_content (gives old.device) old.state) (IsTaken (facts_of old.state) m table s xs)) → 0 < length xs
       → IfSome (present_content (gives mid.device) mid.state) (λ c. may_put mid.state.place mid.state.found xs ≡ true)

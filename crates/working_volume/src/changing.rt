@@ -3,12 +3,13 @@ ghost use Rattle.std.specs.Prelude.{◌≡◌, ◌<◌, true, false, All, None, 
 ghost use Rattle.tree_model.specs.Steps.{IsWithinBounds, is_given_up};
 ghost use Rattle.log_reading.specs.Rings.{IsRingPlace};
 ghost use Rattle.plans_lead.specs.map_change.Parts.{live_parts};
+ghost use Rattle.plans_lead.specs.same_names.Names.{SameNames};
 ghost use Rattle.plans_lead.specs.volume_map.Maps.{volume_in};
 ghost use Rattle.plans_lead.specs.volume_tree.Named.{AreNamesOf};
 ghost use Rattle.plans_lead.specs.txn_state.States.{facts_of};
 ghost use Rattle.plans_lead.specs.txn_core.Views.{present_content};
 ghost use Rattle.put_checks.specs.state_store.Volumes.{geometry_of, HoldsState};
-ghost use Rattle.put_checks.specs.state_store.Changes.{MayLog, AreApart, LeadsOn};
+ghost use Rattle.put_checks.specs.state_store.Changes.{MayLog, AreApart, LeadsOn, KeepsNamesBy};
 ghost use Rattle.put_checks.specs.state_store.Rooms.{MayNumber};
 ghost use Rattle.put_checks.specs.state_store.Preparing.{KeepsSeen, FailsSeen, CountsSeen};
 ghost use Rattle.change_plan.specs.declared.fault.PlanFault.TheVariants as plan_faults;
@@ -26,7 +27,9 @@ use crate::planning::plan_over;
 use change_plan::{ChangePlan, NamedVolume, Names, Op, PlanFault, Reply, Upcase, VolumeStreams};
 use disk_model::Change;
 use plans_lead::{LiveMap, Store, names_stay, plans_lead_on};
-use put_checks::{PutFault, checks_are_enough, checks_are_met, may_put, put_changes};
+use put_checks::{
+    PutFault, SameNamesRule, checks_are_enough, checks_are_met, may_put, put_changes,
+};
 use sector_device::Device;
 use std::alloc::Global;
 
@@ -64,12 +67,13 @@ fn put_tried<D: Device>(
     requires each { All (MayLog (facts_of store.old.state)) plan.changes.items }
     requires apart { AreApart plan.changes.items }
     requires leads { IfSome (present_content (D.gives store.old.device) store.old.state) (LeadsOn (live_parts live.old) upper.now plan.changes.items) }
+    requires allowed { IfSome (present_content (D.gives store.old.device) store.old.state) (KeepsNamesBy SameNames (live_parts live.old) plan.changes.items) }
     requires kept_on { is_given_up plan.reply ≡ false }
     ensures puts { PutsPlan D.gives D.sector_count D.changes_of D.fault_count D.moment_of result plan store.old store.new (live_parts live.old) (live_parts live.new) upper.now }
 {
     names_stay();
     let ChangePlan { reply, changes } = plan;
-    let put = put_changes(store, live, upper, alloc, &changes);
+    let put = put_changes(store, live, &SameNamesRule, upper, alloc, &changes);
     answered(reply, put)
 }
 
@@ -86,6 +90,7 @@ fn put_some<D: Device>(
     requires ring { IsRingPlace store.old.state.place }
     requires some { 0 < length plan.changes.items }
     requires leads { IfSome (present_content (D.gives store.old.device) store.old.state) (LeadsOn (live_parts live.old) upper.now plan.changes.items) }
+    requires allowed { IfSome (present_content (D.gives store.old.device) store.old.state) (KeepsNamesBy SameNames (live_parts live.old) plan.changes.items) }
     requires passes { IfSome (present_content (D.gives store.old.device) store.old.state) (λ c. may_put store.old.state.place store.old.state.found plan.changes.items ≡ true) }
     requires kept_on { is_given_up plan.reply ≡ false }
     ensures puts { PutsPlan D.gives D.sector_count D.changes_of D.fault_count D.moment_of result plan store.old store.new (live_parts live.old) (live_parts live.new) upper.now }
@@ -110,6 +115,7 @@ fn put_plan<D: Device>(
     requires number { MayNumber (facts_of store.old.state) }
     requires ring { IsRingPlace store.old.state.place }
     requires leads { 0 < length plan.changes.items → IfSome (present_content (D.gives store.old.device) store.old.state) (LeadsOn (live_parts live.old) upper.now plan.changes.items) }
+    requires allowed { 0 < length plan.changes.items → IfSome (present_content (D.gives store.old.device) store.old.state) (KeepsNamesBy SameNames (live_parts live.old) plan.changes.items) }
     requires passes { 0 < length plan.changes.items → IfSome (present_content (D.gives store.old.device) store.old.state) (λ c. may_put store.old.state.place store.old.state.found plan.changes.items ≡ true) }
     requires kept_on { is_given_up plan.reply ≡ false }
     ensures puts { PutsPlan D.gives D.sector_count D.changes_of D.fault_count D.moment_of result plan store.old store.new (live_parts live.old) (live_parts live.new) upper.now }

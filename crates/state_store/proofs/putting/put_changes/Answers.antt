@@ -16,7 +16,7 @@ returns-then-is_empty-clause-put g c =
     c.requires.holds.closed (subst (λ (s : StateOf). IsStore (facts_of s)) c.state.ensures c.known.ensures) (g.met.D.Device.whole c.args.store.now.device) c.requires.holds.shown
 
 pub put_some-requires-clause-maps : goal.put_some-requires-clause-maps
-put_some-requires-clause-maps g c = all_maps (live_parts c.args.live.now) c.args.upper.now c.args.changes.now (present_content (g.D.Device.gives c.args.store.now.device) c.args.store.now.state) c.requires.holds.shown c.requires.leads
+put_some-requires-clause-maps g c = all_maps (g.R.NamesRule.may c.args.rule.now) (live_parts c.args.live.now) c.args.upper.now c.args.changes.now (present_content (g.D.Device.gives c.args.store.now.device) c.args.store.now.state) c.requires.holds.shown c.requires.leads c.requires.allowed
 
 pub put_some-requires-clause-writable : goal.put_some-requires-clause-writable
 put_some-requires-clause-writable g c = all_writable (live_parts c.args.live.now) c.args.upper.now c.args.changes.now (present_content (g.D.Device.gives c.args.store.now.device) c.args.store.now.state) c.requires.leads
