@@ -5,12 +5,14 @@ ghost use Rattle.block_view.specs.Changes.{Fits};
 
 use crate::finding::{Found, found_in};
 use crate::growing::growth;
+use crate::making::making;
 use block_view::{Change, Overlay, View};
 use device_view::{DeviceView, piece_room};
 use sector_device::{Device, MemoryDevice};
 use state_model::Geometry;
 use std::alloc::{AllocError, Global};
 use std::test::Fail;
+use utf16_name::Name;
 use volume_format::format;
 use volume_images::per_cluster;
 
@@ -79,6 +81,22 @@ fn growth_over<V: View>(
     growth(alloc, &mut after)
 }
 
+// The changes by which a file is made, behind these changes.
+fn making_over<V: View>(
+    alloc: Global,
+    view: &mut V,
+    changes: &[Change],
+    number: u64,
+    name: Name,
+) -> Result<Vec<Change>, Fail>
+    requires number { number < 2 ^ 32 }
+    requires fit { All Fits changes.now }
+    ensures { IfOk result (λ more. All Fits more.items) }
+{
+    let mut after = overlay(view, changes);
+    making(alloc, &mut after, number, name)
+}
+
 // What a check finds behind these changes.
 fn found_over<V: View>(alloc: Global, view: &mut V, changes: &[Change]) -> Result<Found, Fail>
     requires { All Fits changes.now }
@@ -122,6 +140,38 @@ impl Laid {
     /// Lets the file table grow once, and lays its changes behind the others.
     pub fn grow(&mut self, alloc: Global, device: &mut MemoryDevice) -> Result<(), Fail> {
         for change in self.growth(alloc, device)? {
+            self.lay(change)?;
+        }
+        Ok(())
+    }
+
+    // The changes by which a file is made, behind those that are laid.
+    fn making(
+        &self,
+        alloc: Global,
+        device: &mut MemoryDevice,
+        number: u64,
+        name: Name,
+    ) -> Result<Vec<Change>, Fail>
+        requires { number < 2 ^ 32 }
+        ensures { IfOk result (λ more. All Fits more.items) }
+    {
+        let mut room = piece_room(alloc)?;
+        let mut view = DeviceView::new(&mut room, device);
+        making_over(alloc, &mut view, &self.changes, number, name)
+    }
+
+    /// Makes a file of the root with this number and name, and lays its changes behind the others.
+    pub fn make(
+        &mut self,
+        alloc: Global,
+        device: &mut MemoryDevice,
+        number: u64,
+        name: Name,
+    ) -> Result<(), Fail>
+        requires { number < 2 ^ 32 }
+    {
+        for change in self.making(alloc, device, number, name)? {
             self.lay(change)?;
         }
         Ok(())
