@@ -1,21 +1,18 @@
 -- What is put of a file table that grows, over a content that may be known.
-use Rattle.std.proofs.Common.{◌≡◌, ℕ, ◌-◌, ◌≤◌, Bool, true, false, List, [], length, Option, Some, None, Result, Ok, Err, refl, sym, ap, subst, ◌∙◌, arith}
+use Rattle.std.proofs.Common.{◌≡◌, ℕ, Bool, List, [], length, Option, Some, None, Result, Ok, Err, refl, sym, ap, subst, ◌∙◌}
 use Rattle.std.specs.Prelude.{IfErr, IfOk, IfSome}
 use Rattle.host_base.specs.Answers.{GivesOrFails}
 use Rattle.disk_model.specs.Content.{Content}
-use Rattle.record_model.specs.declared.runs.Run.{Run}
 use Rattle.record_model.specs.Constants.{data_type}
 use Rattle.record_model.specs.Records.{Record}
 use Rattle.state_model.specs.declared.stream.Extents.{Extents}
 use Rattle.state_model.specs.declared.stream.Stream.{Stream}
 use Rattle.state_model.specs.declared.stream.Stream.TheVariants.{Held, Placed}
 use Rattle.state_model.specs.Loads.{total_clusters}
-use Rattle.stream_runs.specs.Runs.{merged}
 use Rattle.plan_draft.specs.declared.touched.Touched.{Touched}
 use Rattle.draft_records.specs.Records.{fits_room}
 use Rattle.draft_bitmaps.specs.declared.bitmap.Bitmap.{Bitmap}
 use Rattle.draft_growth.specs.Faults.{growth_room}
-use Rattle.draft_growth.specs.declared.fault.GrowthFault.{GrowthFault}
 use Rattle.draft_growth.specs.declared.table.Table.{Table}
 use Rattle.draft_growth.specs.Growing.{behind_records, behind_table, bitmap_behind, bitmap_size, grown_record, more_for, numbers_in, space_of, standing_in, wanted_for, with_records, GrowsTable, IsTable, MayHaveMore}
 use Rattle.file_puts.specs.declared.streams.VolumeStreams.{VolumeStreams}
@@ -26,7 +23,7 @@ use Rattle.grown_tables.specs.First.{MayBePut}
 use Rattle.grown_tables.specs.Full.{MayBeCounted}
 use Rattle.table_makes.specs.declared.fault.TableFault.{TableFault}
 use Rattle.table_makes.specs.declared.grown.TableGrown.{TableGrown}
-use Rattle.table_makes.specs.Growing.{lacking, CountsTheSame, GrowsAsCounted, PutsFirst, TableGrew}
+use Rattle.table_makes.specs.Growing.{lacking, CountsTheSame, PutsFirst, TableGrew}
 
 -- a table that grew had room in record 0
 has_room : (m : Result (Unit {0}) ℕ) (after : Table) → IfErr m (λ used. GivesOrFails {X = Table} (λ z. tt {0}) growth_room (Ok after) (Err used)) → m ≡ Ok tt

@@ -1,5 +1,5 @@
 -- Runs that are the same.
-use Rattle.std.proofs.Common.{◌≡◌, ℕ, zero, suc, ◌+◌, ◌<◌, ◌≤◌, List, [], ◌∷◌, ◌++◌, take, get_or, length, refl, sym, ap, ◌∙◌, arith}
+use Rattle.std.proofs.Common.{◌≡◌, ℕ, ◌+◌, ◌<◌, ◌≤◌, List, [], ◌∷◌, ◌++◌, take, get_or, length, sym, ap, ◌∙◌, arith}
 use Rattle.std.proofs.lemmas.List.{take_more, take_all}
 use Rattle.record_model.specs.declared.runs.Run.{Run}
 

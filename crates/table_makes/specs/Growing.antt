@@ -1,9 +1,8 @@
 -- What a draft puts of a file table that grows first, as a step counts it.
-use Rattle.std.specs.Prelude.{◌≡◌, ◌⊎◌, ℕ, ◌<◌, ◌≤◌, Bool, List, [], Some, Ok, Err, length}
+use Rattle.std.specs.Prelude.{◌≡◌, ◌⊎◌, ℕ, ◌<◌, ◌≤◌, Bool, List, Some, Ok, Err, length}
 use Rattle.disk_model.specs.Content.{Content}
-use Rattle.record_model.specs.Constants.{bitmap_type, data_type}
+use Rattle.record_model.specs.Constants.{data_type}
 use Rattle.record_model.specs.Records.{Record}
-use Rattle.state_model.specs.declared.stream.Extents.{Extents}
 use Rattle.state_model.specs.declared.stream.Stream.{Stream}
 use Rattle.state_model.specs.declared.stream.Stream.TheVariants.{Held, Placed}
 use Rattle.stream_runs.specs.Runs.{merged}

@@ -16,8 +16,8 @@ pub enum TableFault {
     /// Want of memory.
     #[error("no memory")]
     Memory,
-    /// The bitmap of the numbers isn't one that is put and counted the same, or what was read is part
-    /// of no state.
+    /// The bitmap of the numbers isn't one that is put and counted the same, or what was read is
+    /// part of no state.
     #[error("the file table can't grow so")]
     Unplanned,
 }

@@ -87,17 +87,18 @@ fn put_first<V: View, B: FreeBits>(
 
 /// Grows the file table in a draft as a step of the volume counts it where no number is spare
 /// (Linux-NTFS documentation, "$MFT"): what [`grow_table`] puts. `file` is record 0, `bits_file` is
-/// record 6, which has the bits of the clusters as its data; `bits` are those bits, and `counted` the
-/// same once more, which are of no more use afterwards. The volume has 8 sectors a cluster. The
+/// record 6, which has the bits of the clusters as its data; `bits` are those bits, and `counted`
+/// the same once more, which are of no more use afterwards. The volume has 8 sectors a cluster. The
 /// answer is the volume's streams with the longer table, and where the bits of its numbers stand;
 /// `bits` are then those that are left.
 ///
-/// - [`TableFault::Full`]: record 0 would use so many bytes, which are above 1,024; the draft is as it
-///   was.
-/// - [`TableFault::Unplanned`]: the bitmap of the numbers is a value of more than 1,024 bytes, or one
-///   that stays a value; it lacks no cluster and has runs that touch; record 0 has room by the count
-///   of a step, and not as it is put; fewer clusters are clear than come; the table would have too
-///   many records; or what was read is part of no state.
+/// - [`TableFault::Full`]: record 0 would use so many bytes, which are above 1,024; the draft is as
+///   it was.
+/// - [`TableFault::Unplanned`]: the bitmap of the numbers is a value of more than 1,024 bytes, one
+///   that stays a value, or one that leaves record 0, which is too full all the same; it lacks no
+///   cluster and has runs that touch; record 0 has room by the count of a step, and not as it is
+///   put; fewer clusters are clear than come; the table's size cuts a record, or it would have too
+///   many; or what was read is part of no state.
 /// - [`TableFault::Fault`]: the view failed, and counts it.
 /// - [`TableFault::Memory`]: want of memory.
 ///

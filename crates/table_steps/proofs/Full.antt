@@ -1,5 +1,5 @@
 -- Record 0 is too full where the file table would grow.
-use Rattle.std.proofs.Common.{◌≡◌, ℕ, ◌+◌, ◌-◌, ◌/◌, ◌%◌, ◌<◌, ◌≤◌, max, Bool, true, false, cond, leb, List, [], ◌∷◌, ◌++◌, Option, Some, None, Ok, Err, refl, sym, ap, ap₂, subst, ◌∙◌, inl, inr, arith}
+use Rattle.std.proofs.Common.{◌≡◌, ℕ, ◌+◌, ◌-◌, ◌/◌, ◌%◌, ◌<◌, max, Bool, true, false, cond, leb, List, [], ◌∷◌, ◌++◌, Option, Some, None, Err, refl, sym, ap, ap₂, ◌∙◌, inl, inr, arith}
 use Rattle.std.proofs.lemmas.Bool.{cases_lt, both_ways, eq-eqb, ne_eqb, le-leb, lt-ltb}
 use Rattle.host_base.specs.Answers.{needs}
 use Rattle.disk_model.specs.Content.{Content}
@@ -25,7 +25,6 @@ use Rattle.stream_runs.specs.Runs.{grown, last_cluster}
 use Rattle.plan_owners.specs.States.{Stands}
 use Rattle.plan_table.specs.Growing.{longer_table}
 use Rattle.plan_table.proofs.Table.{table_records, table_initialised}
-use Rattle.table_edits.specs.draft_growth.draft_bitmaps.declared.bitmap.Bitmap.{Bitmap}
 use Rattle.table_edits.specs.draft_growth.declared.table.Table.{Table}
 use Rattle.table_edits.specs.draft_growth.Growing.{behind_records, bitmap_behind, bitmap_size, grown_record, larger, more_for, numbers_bytes, numbers_in, roomier, size_in, standing_in, with_records, with_room}
 use Rattle.table_edits.specs.draft_growth.record_streams.Placing.{placed_record}
@@ -44,7 +43,7 @@ use Rattle.made_trees.specs.step_model.Used.{first_or, most_used, new_attr, own_
 use Rattle.made_trees.specs.step_model.Streams.{Comes, Wanted, as_value, attr_in, attrs_placed, bits_key, comes, in_clusters, placed_among, placed_by, stream_in, table_comes, wanted_bits, wanted_table}
 use Rattle.made_trees.specs.step_model.Plans.{full_row, grows_table, table_in, used_if, used_in}
 use Rattle.made_steps.specs.Behind.{table_used}
-use Rattle.table_makes.proofs.grown_tables.Counted.{records_by, numbers_by, runs_more, none_chosen}
+use Rattle.table_makes.proofs.grown_tables.Counted.{records_by, numbers_by, runs_more}
 use Rattle.table_makes.proofs.grown_tables.First.{same_for}
 use Rattle.table_makes.proofs.grown_tables.Full.{records_are}
 

@@ -1,5 +1,5 @@
 -- Record 0 is too full by a draft's count where it is by a step's.
-use Rattle.std.proofs.Common.{◌≡◌, ◌⊎◌, ℕ, ◌-◌, ◌%◌, ◌<◌, List, [], Option, Some, Err, refl, sym, ap, subst, ◌∙◌, inl, inr, arith}
+use Rattle.std.proofs.Common.{◌≡◌, ℕ, ◌-◌, ◌%◌, ◌<◌, [], Some, Err, refl, sym, ap, subst, ◌∙◌, inl, inr}
 use Rattle.disk_model.specs.Content.{Content}
 use Rattle.record_model.specs.Constants.{bitmap_type}
 use Rattle.record_model.specs.Records.{Record}
@@ -20,7 +20,7 @@ use Rattle.table_edits.specs.Grown.{table_runs}
 use Rattle.made_trees.proofs.plan_model.Drafting.{per_is}
 use Rattle.made_trees.specs.step_model.Plans.{full_row}
 use Rattle.made_steps.specs.Behind.{table_used}
-use Rattle.table_makes.specs.Growing.{lacking, IsTooFull, IsTooFullAs}
+use Rattle.table_makes.specs.Growing.{lacking, IsTooFullAs}
 use Rattle.table_steps.specs.Steps.{RefusesTableFirst, TableIsRefused}
 use Rattle.table_steps.proofs.Growing.{IsReadIn, IsTableIn, bitmap_by, table_by, placed_same}
 use Rattle.table_steps.proofs.Full.{full_alone, full_with_bitmap}

@@ -1,6 +1,5 @@
-use Rattle.std.proofs.Common.{◌≡◌, ℕ, ◌+◌, ◌/◌, ◌<◌, ◌≤◌, length, Err, sym, subst, ◌∙◌, inr, arith}
+use Rattle.std.proofs.Common.{◌≡◌, ℕ, ◌+◌, ◌/◌, ◌<◌, ◌≤◌, length, Err, sym, subst, inr, arith}
 use Rattle.record_model.specs.Pairs.{cluster_limit}
-use Rattle.state_model.specs.declared.stream.Stream.{Stream}
 use Rattle.draft_records.specs.Records.{fits_room}
 use Rattle.state_model.specs.declared.stream.Stream.TheVariants.{Placed}
 use Rattle.draft_growth.specs.Growing.{numbers_bytes, MayGrow, MayGrowIn}

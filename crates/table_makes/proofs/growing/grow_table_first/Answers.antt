@@ -1,4 +1,4 @@
-use Rattle.std.proofs.Common.{rules, ◌≡◌, Some, length, subst}
+use Rattle.std.proofs.Common.{rules, ◌≡◌, Some, length}
 use Rattle.record_model.specs.Constants.{data_type}
 use Rattle.draft_growth.specs.Growing.{IsTable, MayHaveMore}
 use Rattle.planned_streams.specs.Planned.{bitmap_in, table_in}
