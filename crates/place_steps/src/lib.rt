@@ -6,5 +6,10 @@
 
 mod laws;
 
-pub use grown_indexes::{put_grows_next, puts_among};
+pub use grown_indexes::{
+    counts_among_all, put_grows_next, put_raises, puts_among, puts_as_counted,
+};
+pub use index_edits::raised_is_edit;
 pub use laws::places_are_steps;
+pub use made_steps::{indexes_move, times_keep_grown};
+pub use place_makes::{found_is_there, new_file_reads, places_are_there, times_are_set};
